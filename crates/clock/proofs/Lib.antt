@@ -1,0 +1,11 @@
+pub mod Linear
+pub mod Tests
+pub mod Tables
+pub mod Ranges
+pub mod ValueLaws
+pub mod Casts
+pub mod LineValue
+pub mod Requests
+pub mod Placed
+pub mod Readings
+pub mod NewLine

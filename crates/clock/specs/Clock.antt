@@ -1,0 +1,48 @@
+-- The clock's record: what its creation word says, and what holds of every clock.
+use mathlib.Core.Bool.{Bool, cond}
+use mathlib.Core.Path.{_≡_}
+use Prim.Native.Nat.{ℕ}
+use lib.IntN.{ℤ, pos, negℤ}
+use lib.Signed.{_≤ℤ_}
+use lib.Dec.{T}
+use Rattle.clock.specs.Numbers.{END, MAX_RATE, bit}
+use Rattle.clock.specs.Line.{identity, valueAt}
+use Rattle.clock.specs.declared.Line.{Line}
+use Rattle.clock.specs.declared.Clock.{Clock}
+
+-- the creation word: monotonic 128, continuous 64, auto start 32 (01, 'Creation')
+abbrev pub monotonic : ℕ → Bool
+monotonic word = bit 7 word
+
+abbrev pub continuous : ℕ → Bool
+continuous word = bit 6 word
+
+abbrev pub autoStart : ℕ → Bool
+autoStart word = bit 5 word
+
+-- T, the old line of an update; before the start the identity line, since 'old a is 0 before the start' (01, the effect table)
+unfoldable pub oldLine : Clock → Line
+oldLine c = cond (c .started) (c .line) identity
+
+-- in 0..END
+pub record InRange (x : ℤ) : Type 0 where
+  pub low : pos 0 ≤ℤ x
+  pub high : x ≤ℤ END
+
+-- in -1000..1000
+pub record Permitted (a : ℤ) : Type 0 where
+  pub low : negℤ MAX_RATE ≤ℤ a
+  pub high : a ≤ℤ MAX_RATE
+
+-- a line as a clock may hold it
+pub record Drawable (l : Line) : Type 0 where
+  pub reference : InRange (l .reference)
+  pub synthetic : InRange (l .synthetic)
+  pub rate : Permitted (l .rate)
+
+-- what every clock keeps to that creation gave and accepted updates carried on; some records that they can't give keep to it too
+pub record Valid (c : Clock) : Type 0 where
+  pub line : Drawable (c .line)
+  pub backstop : InRange (c .backstop)
+  pub latest : InRange (c .latest)
+  pub above : T (c .started) → c .backstop ≤ℤ valueAt (c .line) (c .latest)

@@ -1,0 +1,63 @@
+-- Creation: its refusals, the clock it gives, and its whole answer.
+use mathlib.Core.Bool.{Bool, true, false, not, cond, _&&_}
+use mathlib.Core.List.{List, [], _∷_}
+use mathlib.Core.Option.{Option, none, some}
+use Prim.Native.Nat.{ℕ, _-_, _/_, _%_, _^_}
+use lib.IntN.{ℤ, pos}
+use lib.Signed.{ltZ}
+use lib.Dec.{eqb}
+use Rattle.clock.specs.Numbers.{timeOutside}
+use Rattle.clock.specs.Refusals.{Row, _when_, first}
+use Rattle.clock.specs.Line.{identity}
+use Rattle.clock.specs.Clock.{monotonic, continuous, autoStart}
+use Rattle.clock.specs.declared.Clock.{Clock}
+use Rattle.clock.specs.declared.Created.{Created}
+use Rattle.clock.specs.declared.Created.the-variants.{Made, Refused}
+
+-- all bits of the 8-bit word but the three flags are zero
+abbrev pub othersZero : ℕ → Bool
+othersZero word = eqb (word % 32) 0 && eqb (word / 256) 0
+
+-- 'Creation: 1; 3 for an unknown bit; 15 ..' (01, 'When the clock says no'); `ltZ a b` is a < b
+unfoldable pub creationTable : ℕ → ℤ → ℤ → List Row
+creationTable word backstop now =
+    (1 when timeOutside now
+    ∷ 3 when not (othersZero word)
+    ∷ 15 when (continuous word && not (monotonic word))
+    ∷ 16 when timeOutside backstop
+    ∷ 17 when (autoStart word && ltZ now backstop)
+    ∷ [])
+
+unfoldable pub creationRefusal : ℕ → ℤ → ℤ → ℕ
+creationRefusal word backstop now = first (creationTable word backstop now)
+
+-- an error bound of all ones means unknown
+abbrev pub UNKNOWN_ERROR : ℕ
+UNKNOWN_ERROR = 2 ^ 64 - 1
+
+-- unless auto start is set the clock isn't started; auto start gives the line (0, 0, 0) at once; generation starts at 1 (01, 'Creation')
+unfoldable pub created : ℕ → ℤ → ℤ → Clock
+created word backstop now = record {
+  word = word;
+  backstop = backstop;
+  started = autoStart word;
+  line = identity;
+  error = UNKNOWN_ERROR;
+  generation = 1;
+  latest = now;
+}
+
+-- the answer: a refusal's number, 0 for none, and the clock; a refused creation gives no clock
+pub record Creation : Type 0 where
+  pub refusal : ℕ
+  pub clock : Option Clock
+
+unfoldable pub creating : ℕ → ℤ → ℤ → Creation
+creating word backstop now =
+    let n = creationRefusal word backstop now in
+    record { refusal = n; clock = cond (eqb n 0) (some (created word backstop now)) none }
+
+-- what each case of the enum that creation returns stands for
+abbrev pub told : Created → Creation
+told (Made c) = record { refusal = 0; clock = some c }
+told (Refused n) = record { refusal = n; clock = none }

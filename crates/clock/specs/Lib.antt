@@ -1,0 +1,10 @@
+pub mod Numbers
+pub mod Refusals
+pub mod Line
+pub mod Clock
+pub mod Creation
+pub mod Reading
+pub mod Update
+pub mod Details
+pub mod Calls
+pub mod Parts

@@ -1,0 +1,138 @@
+-- Updates: the word, the new line, the refusals, and what an accepted update leaves.
+use mathlib.Core.Bool.{Bool, true, false, not, cond, _&&_, _||_}
+use mathlib.Core.List.{List, [], _∷_}
+use Prim.Native.Nat.{ℕ, _+_, _/_, _%_, _^_}
+use lib.IntN.{ℤ, pos}
+use lib.Signed.{ltZ}
+use lib.Dec.{T, eqb}
+use mathlib.Core.Path.{_≡_}
+use Rattle.clock.specs.Numbers.{END, outside, timeOutside, rateOutside, bit}
+use Rattle.clock.specs.Refusals.{Row, _when_, first}
+use Rattle.clock.specs.Line.{line, valueAt}
+use Rattle.clock.specs.Clock.{monotonic, continuous, oldLine}
+use Rattle.clock.specs.declared.Line.{Line}
+use Rattle.clock.specs.declared.Clock.{Clock}
+use Rattle.clock.specs.declared.Request.{Request}
+use Rattle.clock.specs.declared.Updated.{Updated}
+
+-- ---- the update word: version 6 bits; synthetic, reference, rate, error; 54 zero bits
+
+-- the version must be 2
+abbrev pub versionKnown : ℕ → Bool
+versionKnown word = eqb (word / 2 ^ 58) 2
+
+abbrev pub hasSynthetic : Request → Bool
+hasSynthetic u = bit 57 (u .word)
+
+abbrev pub hasReference : Request → Bool
+hasReference u = bit 56 (u .word)
+
+abbrev pub hasRate : Request → Bool
+hasRate u = bit 55 (u .word)
+
+abbrev pub hasError : Request → Bool
+hasError u = bit 54 (u .word)
+
+-- the last time and value that a word's fields may carry: one end for every word of version 2
+abbrev pub endOf : ℕ → ℤ
+endOf word = END
+
+-- ---- rules 3, 5 and 6, which speak of the request alone
+
+-- version not 2, or a zero bit set
+unfoldable pub wordWrong : Request → Bool
+wordWrong u = not (versionKnown (u .word)) || not (eqb (u .word % 2 ^ 54) 0)
+
+-- flagged synthetic or reference outside 0..END
+unfoldable pub valuesOutside : Request → Bool
+valuesOutside u =
+    (hasSynthetic u && outside (pos 0) (endOf (u .word)) (u .synthetic))
+    || (hasReference u && outside (pos 0) (endOf (u .word)) (u .reference))
+
+-- flagged rate outside -1000..1000
+unfoldable pub rateTooWide : Request → Bool
+rateTooWide u = hasRate u && rateOutside (u .rate)
+
+-- ---- the new line
+
+-- P: the reference argument if flagged, else now (01, 'The update word and its effect')
+unfoldable pub place : Request → ℤ → ℤ
+place u now = cond (hasReference u) (u .reference) now
+
+-- whether the line is replaced
+abbrev pub replaces : Request → Bool
+replaces u = hasSynthetic u || hasRate u
+
+-- the effect table: synthetic flagged, rate flagged; T, P, S and the new a
+unfoldable pub effect : Bool → Bool → Line → ℤ → ℤ → ℤ → Line
+effect true false T P S a = line P S (T .rate)
+effect false true T P S a = line P (valueAt T P) a
+effect true true T P S a = line P S a
+effect false false T P S a = T
+
+-- before the start T is the identity line
+unfoldable pub newLine : Clock → Request → ℤ → Line
+newLine c u now = effect (hasSynthetic u) (hasRate u) (oldLine c) (place u now) (u .synthetic) (u .rate)
+
+-- ---- the refusals
+
+-- the table of 01, 'When the clock says no', row by row; `ltZ a b` is a < b
+unfoldable pub updateTable : Clock → Request → ℤ → List Row
+updateTable c u now =
+    let new = newLine c u now in
+    let newValue = valueAt new now in
+    let oldValue = valueAt (oldLine c) now in
+    let isMonotonic = monotonic (c .word) in
+    let isContinuous = continuous (c .word) in
+    (1 when timeOutside now
+    ∷ 2 when ltZ now (c .latest)
+    ∷ 3 when wordWrong u
+    ∷ 4 when not (hasSynthetic u || hasReference u || hasRate u || hasError u)
+    ∷ 5 when valuesOutside u
+    ∷ 6 when rateTooWide u
+    ∷ 7 when (hasReference u && not (hasSynthetic u || hasRate u))
+    ∷ 8 when (not (c .started) && not (hasSynthetic u))
+    ∷ 9 when (isContinuous && hasReference u)
+    ∷ 10 when (isContinuous && c .started && hasSynthetic u)
+    ∷ 11 when (isMonotonic && c .started && hasSynthetic u && hasRate u)
+    ∷ 12 when (replaces u && (timeOutside (new .synthetic) || ltZ END newValue))
+    ∷ 13 when (replaces u && ltZ newValue (c .backstop))
+    ∷ 14 when (replaces u && isMonotonic && c .started && ltZ newValue oldValue)
+    ∷ [])
+
+unfoldable pub updateRefusal : Clock → Request → ℤ → ℕ
+updateRefusal c u now = first (updateTable c u now)
+
+-- ---- the clock that an accepted update leaves
+
+-- up by one, from 2^32 - 1 to 0, when the line is replaced, also by an equal one
+unfoldable pub nextGeneration : Bool → ℕ → ℕ
+nextGeneration replaced generation = cond replaced ((generation + 1) % 2 ^ 32) generation
+
+-- the first accepted synthetic value starts the clock for good; a flagged error bound is stored; the latest update time becomes now
+unfoldable pub updated : Clock → Request → ℤ → Clock
+updated c u now = record {
+  word = c .word;
+  backstop = c .backstop;
+  started = c .started || hasSynthetic u;
+  line = newLine c u now;
+  error = cond (hasError u) (u .error) (c .error);
+  generation = nextGeneration (replaces u) (c .generation);
+  latest = now;
+}
+
+-- the answer: the new clock, or the old one with a refusal
+unfoldable pub updating : Clock → Request → ℤ → Updated
+updating c u now =
+    let n = updateRefusal c u now in
+    record { clock = cond (eqb n 0) (updated c u now) c; refusal = n }
+
+-- ---- requests that ask for the same
+
+-- the same word and flagged arguments
+pub record SameRequest (u v : Request) : Type 0 where
+  pub word : u .word ≡ v .word
+  pub synthetic : T (hasSynthetic u) → u .synthetic ≡ v .synthetic
+  pub reference : T (hasReference u) → u .reference ≡ v .reference
+  pub rate : T (hasRate u) → u .rate ≡ v .rate
+  pub error : T (hasError u) → u .error ≡ v .error

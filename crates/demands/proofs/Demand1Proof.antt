@@ -1,0 +1,74 @@
+-- Demand 1: each answer is what its table says, and what is refused leaves the clock as it was and answers zeros.
+use mathlib.Core.Path.{_≡_, refl}
+use mathlib.Core.Bool.{not, cond}
+use mathlib.Core.Option.{Option, none, some}
+use Prim.Native.Nat.{ℕ}
+use lib.IntN.{ℤ, pos}
+use lib.Dec.{T, eqb}
+use borrow.Author.Tests.{ne-eqb}
+use Rattle.clock.specs.Creation.{creationTable, creationRefusal, created, creating}
+use Rattle.clock.specs.Reading.{clockValue, readingTable, readingRefusal, reading}
+use Rattle.clock.specs.Update.{updateTable, updateRefusal, updated, updating}
+use Rattle.clock.specs.Details.{detailsTable, detailsRefusal, detailsOf, detailing, zeroDetails}
+use Rattle.clock.specs.Calls.{Call, update, ask, read, details, refusalOf, accepted, after}
+use Rattle.clock.specs.declared.Clock.{Clock}
+use Rattle.clock.proofs.Tests.{if-false}
+use Rattle.clock.proofs.Tables.{settled}
+use Rattle.demands.specs.Demand1.{Demand1·create, Demand1·read, Demand1·update, Demand1·details, Zeros, RefusedUnaltered, Demand1·calls}
+use Rattle.demands.proofs.Rows.{either-way}
+use Rattle.demands.proofs.Walks.{of-any}
+
+pub demand1·create : Demand1·create
+unfolding creating creationRefusal creationTable
+demand1·create word backstop now =
+    settled (creationTable word backstop now)
+    (λ n. record { refusal = n; clock = cond (eqb n 0) (some (created word backstop now)) none })
+    (record { refusal = 0; clock = some (created word backstop now) })
+    (λ n. record { refusal = n; clock = none })
+    tt refl (λ n h. simp (ne-eqb n 0 h))
+
+pub demand1·read : Demand1·read
+unfolding reading readingRefusal readingTable
+demand1·read c now =
+    settled (readingTable c now)
+    (λ n. record { refusal = n; value = cond (eqb n 0) (clockValue c now) (pos 0) })
+    (record { refusal = 0; value = clockValue c now })
+    (λ n. record { refusal = n; value = pos 0 })
+    tt refl (λ n h. simp (ne-eqb n 0 h))
+
+pub demand1·update : Demand1·update
+unfolding updating updateRefusal updateTable
+demand1·update c u now =
+    settled (updateTable c u now)
+    (λ n. record { clock = cond (eqb n 0) (updated c u now) c; refusal = n })
+    (record { clock = updated c u now; refusal = 0 })
+    (λ n. record { clock = c; refusal = n })
+    tt refl (λ n h. simp (ne-eqb n 0 h))
+
+pub demand1·details : Demand1·details
+unfolding detailing detailsRefusal detailsTable
+demand1·details c now =
+    settled (detailsTable c now)
+    (λ n. record { refusal = n; details = cond (eqb n 0) (detailsOf c now) zeroDetails })
+    (record { refusal = 0; details = detailsOf c now })
+    (λ n. record { refusal = n; details = zeroDetails })
+    tt refl (λ n h. simp (ne-eqb n 0 h))
+
+-- ---- lists of calls
+
+pub refused-clock : (c : Clock) (k : Call) → T (not (accepted c k)) → after c k ≡ c
+unfolding after
+refused-clock c (ask q) n = refl
+refused-clock c (update u now) n = either-way (λ b d. T (not b) → d ≡ c) c u now (λ t f. absurd f) (λ f. refl) n
+
+refused-zeros : (c : Clock) (k : Call) → T (not (accepted c k)) → Zeros c k
+unfolding accepted refusalOf reading detailing
+refused-zeros c (update u now) n = tt
+refused-zeros c (ask (read now)) n = if-false (eqb (readingRefusal c now) 0) (clockValue c now) (pos 0) n
+refused-zeros c (ask (details now)) n = if-false (eqb (detailsRefusal c now) 0) (detailsOf c now) zeroDetails n
+
+pub refused-unaltered : (c : Clock) (k : Call) → RefusedUnaltered c k
+refused-unaltered c k n = record { clock = refused-clock c k n; zeros = refused-zeros c k n }
+
+pub demand1·calls : Demand1·calls
+demand1·calls word backstop now c e calls = of-any RefusedUnaltered refused-unaltered c calls

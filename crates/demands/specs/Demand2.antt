@@ -1,0 +1,82 @@
+-- Demand 2: updates, the backstop, a monotonic clock, a continuous clock.
+use mathlib.Core.Bool.{Bool, cond}
+use mathlib.Core.List.{List, [], _∷_}
+use mathlib.Core.Path.{_≡_}
+use Prim.Native.Nat.{ℕ}
+use lib.IntN.{ℤ}
+use lib.Signed.{_≤ℤ_}
+use lib.Dec.{T}
+use Rattle.clock.specs.Line.{valueAt}
+use Rattle.clock.specs.Clock.{monotonic, continuous}
+use Rattle.clock.specs.Update.{updating, SameRequest}
+use Rattle.clock.specs.Calls.{Call, update, ask, accepted, after, afterAll, Given, nothing, _at_, given}
+use Rattle.clock.specs.declared.Clock.{Clock}
+use Rattle.clock.specs.declared.Request.{Request}
+use Rattle.demands.specs.Demand1.{Demand1·update}
+use Rattle.demands.specs.Lives.{Gave, Each, gathered}
+
+-- ---- an update is refused exactly under the written rules, in their order, and otherwise has exactly the written effect
+
+abbrev pub Demand2·update : Type 0
+Demand2·update = Demand1·update
+
+-- arguments not flagged are ignored
+abbrev pub IgnoresUnflagged : Type 0
+IgnoresUnflagged = (c : Clock) (u v : Request) (now : ℤ) → SameRequest u v → updating c u now ≡ updating c v now
+
+-- ---- no reading is below the backstop
+
+abbrev pub NotBelow : ℤ → Given → Type 0
+NotBelow backstop nothing = Unit {0}
+NotBelow backstop (v at t) = backstop ≤ℤ v
+
+abbrev pub Demand2·backstop : Type 0
+Demand2·backstop = (word : ℕ) (backstop now : ℤ) (c : Clock) → Gave word backstop now c →
+    (calls : List Call) → Each (λ d k. NotBelow backstop (given d k)) c calls
+
+-- ---- while the times don't fall, a monotonic clock's readings never fall
+
+abbrev pub timeOf : Given → List ℤ
+timeOf nothing = []
+timeOf (v at t) = t ∷ []
+
+abbrev pub valueOf : Given → List ℤ
+valueOf nothing = []
+valueOf (v at t) = v ∷ []
+
+-- the time at which an accepted update or a given reading is made; refused calls have none
+unfoldable pub moment : Clock → Call → List ℤ
+moment c (update u now) = cond (accepted c (update u now)) (now ∷ []) []
+moment c (ask q) = timeOf (given c (ask q))
+
+abbrev pub times : Clock → List Call → List ℤ
+times = gathered moment
+
+abbrev pub readings : Clock → List Call → List ℤ
+readings = gathered (λ d k. valueOf (given d k))
+
+-- none is below the one before it
+abbrev pub From : ℤ → List ℤ → Type 0
+From x [] = Unit {0}
+From x (y ∷ ys) = (x ≤ℤ y) × From y ys
+
+abbrev pub NeverFalls : List ℤ → Type 0
+NeverFalls [] = Unit {0}
+NeverFalls (x ∷ xs) = From x xs
+
+-- over any stretch of calls, after any calls before it
+abbrev pub Demand2·monotonic : Type 0
+Demand2·monotonic = (word : ℕ) (backstop now : ℤ) (c : Clock) → Gave word backstop now c → T (monotonic word) →
+    (before stretch : List Call) →
+    NeverFalls (times (afterAll c before) stretch) → NeverFalls (readings (afterAll c before) stretch)
+
+-- ---- on a running continuous clock the old and new line agree at each accepted update
+
+abbrev pub Agrees : Clock → Call → Type 0
+Agrees c (update u now) = T (c .started) → T (continuous (c .word)) → T (accepted c (update u now)) →
+    valueAt (after c (update u now) .line) now ≡ valueAt (c .line) now
+Agrees c (ask q) = Unit {0}
+
+abbrev pub Demand2·continuous : Type 0
+Demand2·continuous = (word : ℕ) (backstop now : ℤ) (c : Clock) → Gave word backstop now c →
+    (calls : List Call) → Each Agrees c calls
