@@ -1,0 +1,17 @@
+use mathlib.Core.Path.{sym, subst}
+use mir.Syntax.{w32}
+use mir.Val.{SFits}
+use mir.ValLaws.{toZ-ofZ}
+use Rattle.lines.proofs.Signs.{widened}
+use borrow.Author.Needs.{needs}
+use Rattle.lines.proofs.wide.Statement.{statement}
+use Rattle.lines.proofs.wide.Tie as tie
+
+cast-result : tie.Need-cast-result
+cast-result c = widened _ (subst (SFits w32) (sym (toZ-ofZ w32 _ (c .fits .x))) (c .fits .x))
+
+returns : tie.Need-returns
+returns c = search needs
+
+pub wide-spec : {M : Type 1} → statement M
+wide-spec = tie.close (tie.spec cast-result returns)
