@@ -1,0 +1,122 @@
+-- Rows of bits and the numbers that they stand for.
+use mathlib.Core.Path.{_≡_, refl, sym, ap, ap₂, _∙_}
+use mathlib.Core.Bool.{Bool, true, false}
+use mathlib.Core.List.{List, [], _∷_, _++_, append-assoc}
+use Prim.Native.Nat.{ℕ, zero, suc, _+_, _*_, _/_, _%_, _^_, _<_}
+use native.Mathlib.Nat.{zero-add, add-assoc, add-mul, mul-assoc, mul-comm, zero-mul, mod-one, pow-zero, pow-suc, mod-lt, mod-eq-of-lt}
+use native.Mathlib.Omega.{arith}
+use native.Mathlib.Numerals.{one-add}
+use lib.Dec.{eqb}
+use lib.ListN.{length, take, drop, length-append}
+use lib.Seq.{take-at, drop-at}
+use lib.Pow.{pow-add, mod-pow-add, high, low}
+use lib.Arith.{digits-lt}
+use Rattle.fields.specs.Bits.{bit, number, odd, digits}
+
+pub length-digits : (w n : ℕ) → length (digits w n) ≡ w
+unfolding digits
+length-digits zero n = refl
+length-digits (suc w) n = ap suc (length-digits w n)
+
+pub number-append : (a b : List Bool) → number (a ++ b) ≡ number a * 2 ^ length b + number b
+unfolding number
+number-append [] b = simp (zero-mul, zero-add)
+number-append (x ∷ a) b =
+    simp (number-append a b, length-append a b, pow-add 2 (length a) (length b), add-mul, mul-assoc, add-assoc)
+
+bit-lt : (b : Bool) → bit b < 2
+bit-lt true = omega arith
+bit-lt false = omega arith
+
+pub number-lt : (a : List Bool) → number a < 2 ^ length a
+unfolding number
+number-lt [] = omega (arith, pow-zero 2)
+number-lt (b ∷ a) =
+    rw (pow-suc 2 (length a)) (omega (arith, digits-lt (bit-lt b) (number-lt a), mul-comm (2 ^ length a) 2))
+
+bit-inj : (x y : Bool) → bit x ≡ bit y → x ≡ y
+bit-inj true true e = refl
+bit-inj true false e = absurd (omega arith)
+bit-inj false true e = absurd (omega arith)
+bit-inj false false e = refl
+
+odd-bit : (n : ℕ) → bit (odd n) ≡ n % 2
+odd-bit n = go (n % 2) (mod-lt n (omega arith))
+  where
+    go : (k : ℕ) → k < 2 → bit (eqb k 1) ≡ k
+    go zero h = refl
+    go (suc zero) h = refl
+    go (suc (suc k)) h = absurd (omega arith)
+
+pub number-digits : (w n : ℕ) → number (digits w n) ≡ n % 2 ^ w
+unfolding number digits
+number-digits zero n = sym (mod-one n)
+number-digits (suc w) n =
+    simp (number-digits w n, odd-bit, length-digits w n, ← one-add w, mod-pow-add n 1 w)
+
+-- rows as long as each other that stand for one number are one row: so a law of digits is one of remainders
+pub number-inj : (a b : List Bool) → length a ≡ length b → number a ≡ number b → a ≡ b
+unfolding number
+number-inj [] [] l e = refl
+number-inj [] (y ∷ b) l e = absurd (omega arith)
+number-inj (x ∷ a) [] l e = absurd (omega arith)
+number-inj (x ∷ a) (y ∷ b) l e = ap₂ {C = List Bool} (λ h t. h ∷ t) (bit-inj x y heads) (number-inj a b len tails)
+  where
+    len : length a ≡ length b
+    len = omega arith
+
+    at-a : number b < 2 ^ length a
+    at-a = rw len (number-lt b)
+
+    same : bit x * 2 ^ length a + number a ≡ bit y * 2 ^ length a + number b
+    same = rw (← len) at e
+
+    heads : bit x ≡ bit y
+    heads = sym (high (bit x) (length a) (number-lt a)) ∙ ap (λ (k : ℕ). k / 2 ^ length a) same ∙ high (bit y) (length a) at-a
+
+    tails : number a ≡ number b
+    tails = sym (low (bit x) (length a) (number-lt a)) ∙ ap (λ (k : ℕ). k % 2 ^ length a) same ∙ low (bit y) (length a) at-a
+
+pub digits-number : (a : List Bool) → digits (length a) (number a) ≡ a
+digits-number a =
+    number-inj _ _ (length-digits (length a) (number a)) (number-digits (length a) (number a) ∙ mod-eq-of-lt (number-lt a))
+
+pub digits-inj : (w n m : ℕ) → n < 2 ^ w → m < 2 ^ w → digits w n ≡ digits w m → n ≡ m
+digits-inj w n m hn hm e =
+    sym (number-digits w n ∙ mod-eq-of-lt hn) ∙ ap number e ∙ number-digits w m ∙ mod-eq-of-lt hm
+
+-- the low bits are all that counts
+pub digits-low : (k n m : ℕ) → n % 2 ^ k ≡ m % 2 ^ k → digits k n ≡ digits k m
+digits-low k n m e = number-inj _ _ (simp length-digits) (simp (number-digits, e))
+
+pub digits-append : (j k n : ℕ) → digits (j + k) n ≡ digits j (n / 2 ^ k) ++ digits k n
+digits-append j k n =
+    number-inj _ _
+    (simp (length-append (digits j (n / 2 ^ k)) (digits k n), length-digits))
+    (simp (number-append (digits j (n / 2 ^ k)) (digits k n), length-digits, number-digits, mod-pow-add n j k))
+
+pub digits-three : (o k r n : ℕ) → digits (o + (k + r)) n ≡ digits o (n / 2 ^ (k + r)) ++ (digits k (n / 2 ^ r) ++ digits r n)
+digits-three o k r n = digits-append o (k + r) n ∙ ap (λ (t : List Bool). digits o (n / 2 ^ (k + r)) ++ t) (digits-append k r n)
+
+-- k bits from bit o on of a number of o + (k + r) bits
+pub digits-part : (o k r n : ℕ) → take k (drop o (digits (o + (k + r)) n)) ≡ digits k (n / 2 ^ r)
+digits-part o k r n =
+    rw (
+      digits-three o k r n,
+      drop-at (digits o (n / 2 ^ (k + r))) (digits k (n / 2 ^ r) ++ digits r n) o (length-digits o (n / 2 ^ (k + r))),
+    )
+    (take-at (digits k (n / 2 ^ r)) (digits r n) k (length-digits k (n / 2 ^ r)))
+
+-- a number put together of h, k bits v and r bits l
+pub digits-joined
+    : (o k r h v l : ℕ) → v < 2 ^ k → l < 2 ^ r
+    → digits (o + (k + r)) ((h * 2 ^ k + v) * 2 ^ r + l) ≡ digits o h ++ (digits k v ++ digits r l)
+digits-joined o k r h v l hv hl =
+    ap (λ (w : ℕ). digits w ((h * 2 ^ k + v) * 2 ^ r + l)) (sym (add-assoc o k r))
+    ∙ digits-append (o + k) r ((h * 2 ^ k + v) * 2 ^ r + l)
+    ∙ ap₂ {C = List Bool} (λ a b. a ++ b)
+    (ap (digits (o + k)) (high (h * 2 ^ k + v) r hl)
+    ∙ digits-append o k (h * 2 ^ k + v)
+    ∙ ap₂ {C = List Bool} (λ a b. a ++ b) (ap (digits o) (high h k hv)) (digits-low k _ _ (low h k hv ∙ sym (mod-eq-of-lt hv))))
+    (digits-low r _ _ (low (h * 2 ^ k + v) r hl ∙ sym (mod-eq-of-lt hl)))
+    ∙ append-assoc (digits o h) (digits k v) (digits r l)
