@@ -1,0 +1,76 @@
+use Prim.Native.Nat.{_+_, _-_, _*_, _/_, _%_, _^_, _<_}
+use native.Mathlib.Omega.{arith}
+use lib.Pow.{pow-pos}
+use Rattle.fields.proofs.Writing.{bit-replaced, high-fits, byte-fits}
+use borrow.Author.Needs.{needs}
+use Rattle.fields.proofs.with_bit.Statement.{statement}
+use Rattle.fields.proofs.with_bit.Tie as tie
+
+sub-k : tie.Need-sub-k
+sub-k c = search needs
+
+power-requires : tie.Need-power-requires
+power-requires c κs = search needs
+
+wide-requires : tie.Need-wide-requires
+wide-requires c κs = search needs
+
+add-x : tie.Need-add-x
+add-x c = search needs
+
+shr-x : tie.Need-shr-x
+shr-x c = search needs
+
+high : (c : tie.After-wide) → c .before .before .args .byte / 2 ^ (1 + (7 - c .before .before .args .o)) * 2 + c .before .before .args .b < 256
+high c =
+    let s = c .before .before in
+    high-fits (s .args .byte) (s .args .o) (s .args .b) (s .fits .byte .fits) (s .pre .0) (s .pre .1)
+
+whole
+    : (c : tie.After-wide)
+    → (c .before .before .args .byte / 2 ^ (1 + (7 - c .before .before .args .o)) * 2 + c .before .before .args .b) * 2 ^ (7 - c .before .before .args .o)
+    + c .before .before .args .byte % 2 ^ (7 - c .before .before .args .o)
+    < 256
+whole c =
+    let s = c .before .before in
+    byte-fits (s .args .byte) (s .args .o) (s .args .b) (s .fits .byte .fits) (s .pre .0) (s .pre .1)
+
+mul-x : tie.Need-mul-x
+mul-x c = rw (c .wide .ensures) (omega (arith, high c))
+
+add-x-2 : tie.Need-add-x-2
+add-x-2 c = rw (c .wide .ensures) (omega (arith, high c))
+
+mul-x-2 : tie.Need-mul-x-2
+mul-x-2 c = rw (c .wide .ensures, c .before .power .ensures) (omega (arith, whole c))
+
+rem-x : tie.Need-rem-x
+rem-x c = rw (c .before .power .ensures) (pow-pos _)
+
+add-x-3 : tie.Need-add-x-3
+add-x-3 c = rw (c .wide .ensures, c .before .power .ensures) (omega (arith, whole c))
+
+cast-result : tie.Need-cast-result
+cast-result c = record { fits = rw (c .wide .ensures, c .before .power .ensures) (whole c) }
+
+returns : tie.Need-returns
+returns c =
+    let a = c .before .before .args in
+    rw (c .wide .ensures, c .before .power .ensures) (bit-replaced (a .byte) (a .o) (a .b) (c .before .before .pre .0) (c .before .before .pre .1))
+
+pub with-bit-spec : {M : Type 1} → statement M
+with-bit-spec =
+    tie.close
+    (tie.spec
+    sub-k
+    power-requires
+    wide-requires
+    add-x
+    shr-x
+    mul-x
+    add-x-2
+    mul-x-2
+    rem-x
+    add-x-3
+    cast-result
+    returns)
