@@ -1,10 +1,64 @@
 // Packed fields: numbers of 0 to 64 bits that stand in bytes one after another, most significant bit first.
 ghost use mathlib.Core.Path.{_≡_};
-ghost use Prim.Native.Nat.{_-_, _/_, _%_, _^_, _<_};
+ghost use Prim.Native.Nat.{_+_, _-_, _/_, _%_, _^_, _<_};
 ghost use lib.ListN.{length};
 ghost use Rattle.fields.specs.Bits.{digits, row};
 ghost use Rattle.fields.specs.Field.{field, over, Inside};
-ghost use Rattle.fields.specs.Record.{total, packed, fields, AllInside};
+ghost use Rattle.fields.specs.Record.{packed, AllInside};
+ghost use Rattle.fields.specs.Reader.{readerAt, movedOn, taken};
+
+// The lent bytes, and the place of the next field in bits.
+pub struct Reader<'a> {
+    src: &'a [u8],
+    at: usize,
+}
+
+// A field, and the place after it.
+pub struct Taken {
+    pub value: u64,
+    pub next: usize,
+}
+
+impl<'a> Reader<'a> {
+    pub fn new(src: &'a [u8], at: usize) -> Reader<'a>
+        ensures { λ r. ⌜ r ≡ readerAt (src .entry) at ⌝ }
+    {
+        Reader { src, at }
+    }
+
+    // The field at the reader's place.
+    pub fn field(self, width: usize) -> u64
+        requires { ⌜ Inside (now (self .src)) (self .at) width ⌝ }
+        ensures { λ r. ⌜ r ≡ field (now (self .entry .src)) (self .entry .at) width ⌝ }
+    {
+        get(self.src, self.at, width)
+    }
+
+    // The reader with its place after that field.
+    pub fn past(self, width: usize) -> Reader<'a>
+        requires { ⌜ self .at + width < 2 ^ 64 ⌝ }
+        ensures { λ r. ⌜ r ≡ movedOn (self .entry) width ⌝ }
+    {
+        Reader {
+            src: self.src,
+            at: self.at + width,
+        }
+    }
+}
+
+// Takes a field through a reader that is moved on. Reading a record, pass `next` on as the place of the field that follows.
+pub fn take(bytes: &[u8], at: usize, width: usize) -> Taken
+    requires { ⌜ Inside (now bytes) at width ⌝ }
+    ensures { λ r. ⌜ r ≡ taken (now (bytes .entry)) at width ⌝ }
+{
+    let reader = Reader::new(bytes, at);
+    let value = reader.field(width);
+    let moved = reader.past(width);
+    Taken {
+        value,
+        next: moved.at,
+    }
+}
 
 // The field of `width` bits from the place `at` on, a bit at a time.
 pub fn get(bytes: &[u8], at: usize, width: usize) -> u64
