@@ -16,7 +16,7 @@ use Rattle.fields.specs.Bits.{bit, number, odd, digits}
 pub length-digits : (w n : ℕ) → length (digits w n) ≡ w
 unfolding digits
 length-digits zero n = refl
-length-digits (suc w) n = ap suc (length-digits w n)
+length-digits (suc w) n = ap suc (length-digits w _)
 
 pub number-append : (a b : List Bool) → number (a ++ b) ≡ number a * 2 ^ length b + number b
 unfolding number

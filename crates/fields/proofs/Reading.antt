@@ -1,13 +1,12 @@
 -- Reading one field: its bound, its parts, and the same field in longer or shorter bytes.
 use mathlib.Core.Path.{_≡_, refl, sym, ap, ap₂, _∙_, subst}
 use mathlib.Core.Bool.{Bool}
-use mathlib.Core.List.{List, [], _∷_, _++_, append-assoc}
+use mathlib.Core.List.{List, [], _∷_, _++_}
 use Prim.Native.Nat.{ℕ, zero, suc, _+_, _-_, _*_, _/_, _%_, _^_, _≤_, _<_}
-use native.Mathlib.Nat.{mod-eq-of-lt, lt-of-lt-of-le}
+use native.Mathlib.Nat.{mod-eq-of-lt}
 use native.Mathlib.Omega.{arith}
-use lib.ListN.{length, take, drop, getD, length-drop, take-append-drop}
+use lib.ListN.{length, take, drop, getD, length-drop}
 use lib.Seq.{take-append-le, drop-append-le, take-add, take-take, drop-drop, take-at, drop-at, length-take-le}
-use lib.Pow.{pow-mono, high, low}
 use Rattle.fields.specs.Bits.{number, digits, row}
 use Rattle.fields.specs.Field.{field}
 use Rattle.fields.proofs.Numbers.{length-digits, number-append, number-lt, number-digits, digits-number}
@@ -59,8 +58,7 @@ pub field-byte : (l : List ℕ) (i o k r : ℕ) → i < length l → o + (k + r)
 unfolding field
 field-byte l i o k r h e = ap number (row-byte l i o k r h e) ∙ number-digits k (getD l i 0 / 2 ^ r)
 
--- ---- k bits more, out of the byte that has bit at + n
-
+-- k bits more, out of the byte that has bit at + n
 pub field-step
     : (l : List ℕ) (at n k : ℕ) → 0 < k → at + (n + k) ≤ 8 * length l → (at + n) % 8 + k ≤ 8
     → field l at (n + k) ≡ field l at n * 2 ^ k + getD l ((at + n) / 8) 0 / 2 ^ (8 - k - (at + n) % 8) % 2 ^ k
@@ -69,13 +67,6 @@ field-step l at n k pos h e =
     ∙ ap (λ (p : ℕ). field l at n * 2 ^ k + field l p k) (omega arith)
     ∙ ap (λ (v : ℕ). field l at n * 2 ^ k + v)
     (field-byte l ((at + n) / 8) ((at + n) % 8) k (8 - k - (at + n) % 8) (omega arith) (omega arith))
-
--- and that fits a word
-pub field-step-fits
-    : (l : List ℕ) (at n k : ℕ) → 0 < k → at + (n + k) ≤ 8 * length l → (at + n) % 8 + k ≤ 8 → n + k ≤ 64
-    → field l at n * 2 ^ k + getD l ((at + n) / 8) 0 / 2 ^ (8 - k - (at + n) % 8) % 2 ^ k < 2 ^ 64
-field-step-fits l at n k pos h e s =
-    subst (λ (x : ℕ). x < 2 ^ 64) (field-step l at n k pos h e) (lt-of-lt-of-le (field-lt l at (n + k) h) (pow-mono s))
 
 -- ---- longer and shorter bytes
 
@@ -105,29 +96,3 @@ unfolding field
 field-drop l k at w =
     ap (λ (r : List Bool). number (take w (drop at r))) (sym (row-drop k l))
     ∙ ap (λ (r : List Bool). number (take w r)) (drop-drop at (8 * k) (row l))
-
--- ---- the bytes as one big number
-
--- a row, cut around w bits from `at` on
-pub cut : (r : List Bool) (at w : ℕ) → r ≡ take at r ++ (take w (drop at r) ++ drop (at + w) r)
-cut r at w =
-    sym (take-append-drop at r)
-    ∙ ap (λ (t : List Bool). take at r ++ t) (sym (take-append-drop w (drop at r)) ∙ ap (λ (t : List Bool). take w (drop at r) ++ t) (drop-drop w at r))
-
--- w bits of it, s bits from its end
-pub field-number : (l : List ℕ) (at w s : ℕ) → at + (w + s) ≡ 8 * length l → field l at w ≡ number (row l) / 2 ^ s % 2 ^ w
-unfolding field
-field-number l at w s e =
-    let r : List Bool = row l in
-    let a : List Bool = take at r in
-    let m : List Bool = take w (drop at r) in
-    let b : List Bool = drop (at + w) r in
-    let lm : length m ≡ w = length-take-le w (drop at r) (omega (arith, length-drop at r, length-row l)) in
-    let lb : length b ≡ s = omega (arith, length-drop (at + w) r, length-row l) in
-    let nb : number b < 2 ^ s = rw (ap (λ (k : ℕ). 2 ^ k) lb) at (number-lt b) in
-    let nm : number m < 2 ^ w = rw (ap (λ (k : ℕ). 2 ^ k) lm) at (number-lt m) in
-    let big : number r ≡ (number a * 2 ^ w + number m) * 2 ^ s + number b =
-    ap number (cut r at w ∙ sym (append-assoc a m b))
-    ∙ number-append (a ++ m) b
-    ∙ ap₂ (λ (x y : ℕ). x * 2 ^ y + number b) (number-append a m ∙ ap (λ (k : ℕ). number a * 2 ^ k + number m) lm) lb in
-    sym (ap (λ (x : ℕ). x / 2 ^ s % 2 ^ w) big ∙ ap (λ (x : ℕ). x % 2 ^ w) (high (number a * 2 ^ w + number m) s nb) ∙ low (number a) w nm)

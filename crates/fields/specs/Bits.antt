@@ -9,7 +9,7 @@ abbrev pub bit : Bool → ℕ
 bit true = 1
 bit false = 0
 
--- the number that a row of bits stands for
+-- the number that a row of bits stands for: 0 1 0 1 for 5
 unfoldable pub number : List Bool → ℕ
 number [] = 0
 number (b ∷ row) = bit b * 2 ^ length row + number row
@@ -17,7 +17,7 @@ number (b ∷ row) = bit b * 2 ^ length row + number row
 abbrev pub odd : ℕ → Bool
 odd n = eqb (n % 2) 1
 
--- the low bits of n, as many as the width says
+-- the low bits of n, as many as the width says: 0 1 0 1 for 5 at width 4
 unfoldable pub digits : ℕ → ℕ → List Bool
 digits zero n = []
 digits (suc width) n = odd (n / 2 ^ width) ∷ digits width n

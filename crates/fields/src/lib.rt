@@ -4,7 +4,7 @@ ghost use Prim.Native.Nat.{_+_, _-_, _/_, _%_, _^_, _<_};
 ghost use lib.ListN.{length};
 ghost use Rattle.fields.specs.Bits.{digits, row};
 ghost use Rattle.fields.specs.Field.{field, over, Inside};
-ghost use Rattle.fields.specs.Record.{packed, AllInside};
+ghost use Rattle.fields.specs.Record.{packed, fields, AllInside};
 ghost use Rattle.fields.specs.Reader.{readerAt, movedOn, taken};
 
 // The lent bytes, and the place of the next field in bits.
@@ -60,8 +60,24 @@ pub fn take(bytes: &[u8], at: usize, width: usize) -> Taken
     }
 }
 
+// Takes fields of the given widths, one after another from the place `at` on.
+pub fn take_all(bytes: &[u8], at: usize, widths: &[usize], values: &mut [u64])
+    requires { ⌜ (length (now values) ≡ length (now widths)) × AllInside (now bytes) at (now widths) ⌝ }
+    ensures { λ _. ⌜ now (values .exit) ≡ fields (now (bytes .entry)) at (now (widths .entry)) ⌝ }
+{
+    let mut p = at;
+    let mut i: usize = 0;
+    while i < widths.len() {
+        let width = widths[i];
+        let t = take(bytes, p, width);
+        values[i] = t.value;
+        p = t.next;
+        i += 1;
+    }
+}
+
 // The field of `width` bits from the place `at` on, a bit at a time.
-pub fn get(bytes: &[u8], at: usize, width: usize) -> u64
+fn get(bytes: &[u8], at: usize, width: usize) -> u64
     requires { ⌜ Inside (now bytes) at width ⌝ }
     ensures { λ r. ⌜ r ≡ field (now (bytes .entry)) at width ⌝ }
 {

@@ -12,7 +12,7 @@ shr-result : tie.Need-shr-result
 shr-result c = search needs
 
 returns : tie.Need-returns
-returns c = cc
+returns c = rw (c .wide .ensures)
 
 pub bit-of-spec : {M : Type 1} → statement M
 bit-of-spec = tie.close (tie.spec wide-requires sub-result shr-result returns)

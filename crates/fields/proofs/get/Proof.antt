@@ -1,8 +1,10 @@
 use mathlib.Core.Path.{_≡_, sym, ap, _∙_}
-use Prim.Native.Nat.{_+_, _-_, _*_, _^_, _≤_, _<_}
+use Prim.Native.Nat.{_-_, _^_, _≤_, _<_}
+use native.Mathlib.Nat.{lt-of-lt-of-le}
 use native.Mathlib.Omega.{arith}
+use lib.Pow.{pow-mono}
 use Rattle.fields.specs.Field.{field}
-use Rattle.fields.proofs.Reading.{field-none, field-step, field-step-fits}
+use Rattle.fields.proofs.Reading.{field-lt, field-none, field-step}
 use Rattle.fields.proofs.get.Statement.{statement}
 use Rattle.fields.proofs.get.Tie as tie
 
@@ -24,18 +26,17 @@ shared-slice-read-bit-of c = omega arith
 bit-of-requires : tie.Need-bit-of-requires Inv-loop μ-loop
 bit-of-requires c κs = omega arith
 
-fits : (c : tie.After-bit-of Inv-loop μ-loop) → c .before .before .before .loop .value * 2 + c .bit-of .result < 2 ^ 64
-fits c =
+short : (c : tie.After-bit-of Inv-loop μ-loop) → c .before .before .before .loop .value < 2 ^ 63
+short c =
     let a = c .before .before .before .before .before .args in
     let l = c .before .before .before .loop in
-    rw (c .bit-of .ensures, l .inv .1)
-    (field-step-fits (a .bytes .now) (a .at) (l .n) 1 (omega arith) (omega arith) (omega arith) (omega arith))
+    rw (l .inv .1) (lt-of-lt-of-le (field-lt (a .bytes .now) (a .at) (l .n) (omega arith)) (pow-mono {i = l .n} {j = 63} (omega arith)))
 
 mul-value : tie.Need-mul-value Inv-loop μ-loop
-mul-value c = omega (arith, fits c)
+mul-value c = omega (arith, short c, c .bit-of .ensures)
 
 add-value : tie.Need-add-value Inv-loop μ-loop
-add-value c = record { fits = fits c }
+add-value c = omega (arith, short c, c .bit-of .ensures)
 
 add-n : tie.Need-add-n Inv-loop μ-loop
 add-n c = omega arith

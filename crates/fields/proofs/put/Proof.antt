@@ -7,7 +7,8 @@ use native.Mathlib.Omega.{arith}
 use lib.ListN.{length, length-set}
 use Rattle.fields.specs.Bits.{digits, row}
 use Rattle.fields.specs.Field.{over}
-use Rattle.fields.proofs.Writing.{over-none, put-step}
+use Rattle.fields.proofs.Over.{over-none}
+use Rattle.fields.proofs.Writing.{put-step}
 use Rattle.fields.proofs.put.Statement.{statement}
 use Rattle.fields.proofs.put.Tie as tie
 
