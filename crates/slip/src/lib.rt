@@ -1,0 +1,277 @@
+// Update slips: a request as packed bytes, read and written.
+ghost use mathlib.Core.Path.{_≡_};
+ghost use mathlib.Core.Bool.{not, cond};
+ghost use mathlib.Core.List.{_++_};
+ghost use Prim.Native.Nat.{_^_, _<_, _≤_};
+ghost use lib.IntN.{pos, natAbs};
+ghost use lib.Dec.{T};
+ghost use lib.ListN.{length, drop};
+ghost use Rattle.clock.specs.Refusals.{first};
+ghost use Rattle.clock.specs.Clock.{InRange, Permitted};
+ghost use Rattle.clock.specs.Update.{valuesOutside, rateTooWide};
+ghost use Rattle.fields.specs.Record.{total, fields, AllInside};
+ghost use Rattle.slip.specs.Layout.{asking, timeWidth, rateField, rateOf, rateFieldEnd, flaggedWidth, widths, slipLength, layout};
+ghost use Rattle.slip.specs.Reading.{readingFront, readingSlip};
+ghost use Rattle.slip.specs.Writing.{valuesOf, slipOf, writingTable, writing, outcome};
+ghost use Rattle.slip.specs.Parts.{refusedBy, judging, Small};
+use clock::Clock;
+use clock::Request;
+use clock::refusal::next;
+
+pub mod refusal;
+
+// A request that was read, and its refusal. A refused one is zeros.
+pub struct Received {
+    pub request: Request,
+    pub refusal: u8,
+}
+
+// How many bytes were written, 0 where it is refused.
+pub struct Written {
+    pub length: usize,
+    pub refusal: u8,
+}
+
+// The bits of the header, a rate and an error bound. The header is the word's top bits.
+const HEADER_BITS: usize = 16;
+
+const RATE_BITS: usize = 11;
+
+const ERROR_BITS: usize = 64;
+
+// The header's last bit, in the word.
+const HEADER_UNIT: u64 = 1 << 48;
+
+// The largest rate field, which stands for the widest rate: a rate is written as a + MAX_RATE.
+const RATE_FIELD_END: u64 = 2 * (Clock::MAX_RATE as u64);
+
+// The request of a slip that is all of the bytes.
+pub fn read(bytes: &[u8]) -> Received
+    ensures { λ r. ⌜ r ≡ readingSlip (now (bytes .entry)) ⌝ }
+{
+    let front = read_front(bytes);
+    let request = front.request;
+    if (front.refusal == 0) & (slip_length(request.word) < bytes.len()) {
+        refused(refusal::BYTES_LEFT_OVER)
+    } else {
+        front
+    }
+}
+
+// Writes the request as a slip to the front of the buffer. No other byte is touched, and none where it is refused.
+pub fn write(request: Request, buffer: &mut [u8]) -> Written
+    ensures { λ r. ⌜ outcome r (now (buffer .exit)) ≡ writing request (now (buffer .entry)) ⌝ }
+{
+    let refusal = writing_refusal(request, buffer.len());
+    if refusal == 0 {
+        write_slip(request, &mut *buffer);
+        let length = slip_length(request.word);
+        Written { length, refusal }
+    } else {
+        Written { length: 0, refusal }
+    }
+}
+
+// The bytes of a slip whose header is the top of this word.
+pub fn slip_length(word: u64) -> usize
+    ensures { λ r. ⌜ r ≡ slipLength (asking word) ⌝ }
+{
+    (bits_of(word) + 7) / 8
+}
+
+// The request of a slip on the front of the bytes, whatever follows it.
+fn read_front(bytes: &[u8]) -> Received
+    ensures { λ r. ⌜ r ≡ readingFront (now (bytes .entry)) ⌝ }
+{
+    if bytes.len() < HEADER_BITS / 8 {
+        return refused(refusal::SLIP_SHORT);
+    }
+    let header = fields::take(bytes, 0, HEADER_BITS);
+    let asked = asking(header.value * HEADER_UNIT);
+    if asked.word_wrong() {
+        return refused(clock::refusal::WORD_WRONG);
+    }
+    if bytes.len() < slip_length(asked.word) {
+        return refused(refusal::SLIP_SHORT);
+    }
+    let layout = layout_of(asked.word);
+    let values = take_all(bytes, layout);
+    judged(asked, values)
+}
+
+// The tests of header, synthetic, reference, rate, error and padding as they stand in a slip, and the request that they give.
+fn judged(asked: Request, values: [u64; 6]) -> Received
+    requires { ⌜ Small values ⌝ }
+    ensures { λ r. ⌜ r ≡ judging asked values ⌝ }
+{
+    let rate = values[3];
+    let r = next(0, RATE_FIELD_END < rate, clock::refusal::RATE_OUTSIDE);
+    let r = next(r, values[5] != 0, refusal::PADDING_SET);
+    if r == 0 {
+        let request = Request {
+            word: asked.word,
+            synthetic: time_of(values[1]),
+            reference: time_of(values[2]),
+            rate: rate_of(asked.has_rate(), rate),
+            error: values[4],
+        };
+        Received {
+            request,
+            refusal: r,
+        }
+    } else {
+        refused(r)
+    }
+}
+
+fn time_of(value: u64) -> i64
+    requires { ⌜ value < 2 ^ 63 ⌝ }
+    ensures { λ r. ⌜ r ≡ pos value ⌝ }
+{
+    value as i64
+}
+
+fn rate_of(flagged: bool, value: u64) -> i32
+    requires { ⌜ value ≤ rateFieldEnd ⌝ }
+    ensures { λ r. ⌜ r ≡ cond flagged (rateOf value) (pos 0) ⌝ }
+{
+    if flagged {
+        (value as i32) - Clock::MAX_RATE
+    } else {
+        0
+    }
+}
+
+// A refused reading: word 0 and zero arguments.
+fn refused(refusal: u8) -> Received
+    ensures { λ r. ⌜ r ≡ refusedBy refusal ⌝ }
+{
+    let request = asking(0);
+    Received { request, refusal }
+}
+
+// A request of this word with zero arguments.
+fn asking(word: u64) -> Request
+    ensures { λ r. ⌜ r ≡ asking word ⌝ }
+{
+    Request {
+        word,
+        synthetic: 0,
+        reference: 0,
+        rate: 0,
+        error: 0,
+    }
+}
+
+// The bits of a time: 61 for every word of version 2.
+fn time_width(word: u64) -> usize
+    ensures { λ r. ⌜ r ≡ timeWidth word ⌝ }
+{
+    61
+}
+
+// A field that isn't flagged has no bits.
+fn flagged_width(flagged: bool, width: usize) -> usize
+    ensures { λ r. ⌜ r ≡ flaggedWidth flagged width ⌝ }
+{
+    if flagged { width } else { 0 }
+}
+
+// The bits of header, synthetic, reference, rate and error.
+fn widths_of(word: u64) -> [usize; 5]
+    ensures { λ r. ⌜ r ≡ widths (asking word) ⌝ }
+{
+    let asked = asking(word);
+    let time = time_width(word);
+    let synthetic = flagged_width(asked.has_synthetic(), time);
+    let reference = flagged_width(asked.has_reference(), time);
+    let rate = flagged_width(asked.has_rate(), RATE_BITS);
+    let error = flagged_width(asked.has_error(), ERROR_BITS);
+    [HEADER_BITS, synthetic, reference, rate, error]
+}
+
+// The bits of a slip before its padding.
+fn bits_of(word: u64) -> usize
+    ensures { λ r. ⌜ r ≡ total (widths (asking word)) ⌝ }
+{
+    let w = widths_of(word);
+    w[0] + w[1] + w[2] + w[3] + w[4]
+}
+
+// The bits of header, synthetic, reference, rate, error and padding.
+fn layout_of(word: u64) -> [usize; 6]
+    ensures { λ r. ⌜ r ≡ layout (asking word) ⌝ }
+{
+    let w = widths_of(word);
+    let padding = 8 * slip_length(word) - bits_of(word);
+    [w[0], w[1], w[2], w[3], w[4], padding]
+}
+
+// The fields of the given widths, one after another from the first bit on.
+fn take_all(bytes: &[u8], widths: [usize; 6]) -> [u64; 6]
+    requires { ⌜ AllInside (now bytes) 0 widths ⌝ }
+    ensures { λ r. ⌜ r ≡ fields (now (bytes .entry)) 0 widths ⌝ }
+{
+    let mut values = [0u64; 6];
+    fields::take_all(bytes, 0, &widths, &mut values);
+    values
+}
+
+// Why a request can't be written into a buffer of this size, 0 where it can.
+fn writing_refusal(request: Request, size: usize) -> u8
+    ensures { λ r. ⌜ r ≡ first (writingTable request size) ⌝ }
+{
+    let length = slip_length(request.word);
+    let r = next(0, request.word_wrong(), clock::refusal::WORD_WRONG);
+    let r = next(r, request.values_outside(), clock::refusal::VALUE_OUTSIDE);
+    let r = next(r, request.rate_too_wide(), clock::refusal::RATE_OUTSIDE);
+    next(r, size < length, refusal::BUFFER_SHORT)
+}
+
+// Writes the slip of a request that fits, into a buffer that has room for it.
+fn write_slip(request: Request, buffer: &mut [u8])
+    requires { ⌜ T (not (valuesOutside request)) × T (not (rateTooWide request)) × (slipLength request ≤ length (now buffer)) ⌝ }
+    ensures { λ _. ⌜ now (buffer .exit) ≡ slipOf request ++ drop (slipLength request) (now (buffer .entry)) ⌝ }
+{
+    let layout = layout_of(request.word);
+    let values = values_of(request);
+    fields::put_all(&mut *buffer, &layout, &values);
+}
+
+// Header, synthetic, reference, rate, error and padding as a slip has them.
+fn values_of(request: Request) -> [u64; 6]
+    requires { ⌜ T (not (valuesOutside request)) × T (not (rateTooWide request)) ⌝ }
+    ensures { λ r. ⌜ r ≡ valuesOf request ⌝ }
+{
+    let header = request.word / HEADER_UNIT;
+    let synthetic = time_value(request.has_synthetic(), request.synthetic);
+    let reference = time_value(request.has_reference(), request.reference);
+    let rate = rate_value(request.has_rate(), request.rate);
+    let error = error_value(request.has_error(), request.error);
+    [header, synthetic, reference, rate, error, 0]
+}
+
+// A flagged argument as a slip has it, 0 for one that isn't flagged.
+fn time_value(flagged: bool, time: i64) -> u64
+    requires { ⌜ (T flagged → InRange time) ⌝ }
+    ensures { λ r. ⌜ r ≡ cond flagged (natAbs time) 0 ⌝ }
+{
+    if flagged { time as u64 } else { 0 }
+}
+
+fn rate_value(flagged: bool, rate: i32) -> u64
+    requires { ⌜ (T flagged → Permitted rate) ⌝ }
+    ensures { λ r. ⌜ r ≡ cond flagged (rateField rate) 0 ⌝ }
+{
+    if flagged {
+        (rate + Clock::MAX_RATE) as u64
+    } else {
+        0
+    }
+}
+
+fn error_value(flagged: bool, error: u64) -> u64
+    ensures { λ r. ⌜ r ≡ cond flagged error 0 ⌝ }
+{
+    if flagged { error } else { 0 }
+}
