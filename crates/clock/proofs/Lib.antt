@@ -9,3 +9,4 @@ pub mod Requests
 pub mod Placed
 pub mod Readings
 pub mod NewLine
+pub mod Creations

@@ -84,7 +84,7 @@ plus-rises z x y h =
     let k = ≤-lin h in
     lin-≤ (omega arith)
 
-floor-rises : (x y v w : ℤ) → Floors x v → Floors y w → x ≤ℤ y → v ≤ℤ w
+pub floor-rises : (x y v w : ℤ) → Floors x v → Floors y w → x ≤ℤ y → v ≤ℤ w
 floor-rises x y v w f g h =
     let k = ≤-lin h in
     lin-≤ (omega arith)

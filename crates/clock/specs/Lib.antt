@@ -7,4 +7,5 @@ pub mod Reading
 pub mod Update
 pub mod Details
 pub mod Calls
+pub mod Records
 pub mod Parts

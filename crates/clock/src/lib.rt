@@ -10,14 +10,16 @@ ghost use Rattle.clock.specs.Update.{newLine, updateTable, nextGeneratio
 ghost use Rattle.clock.specs.Details.{isStarted, zeroLine, detailsOf, zeroDetails, detailing};
 ghost use Rattle.clock.specs.Parts.{rowsBefore, timeTable, placed, readOf, syntheticOf, drawnLine, lineTable};
 
-mod arguments;
+pub mod arguments;
+mod records;
 pub mod refusal;
-mod value;
+pub mod value;
 
 use refusal::next;
 use value::Value;
 
 // A line through the point (reference, synthetic) that gains 1,000,000 + rate millionths of a nanosecond in each nanosecond.
+#[repr(C)]
 pub struct Line {
     pub reference: i64,
     pub synthetic: i64,
@@ -35,7 +37,20 @@ pub struct Clock {
     latest: i64,
 }
 
+// A clock as a record of plain numbers, for callers in other languages. Any numbers may stand in it; started is 1 or 0.
+#[repr(C)]
+pub struct Record {
+    pub backstop: i64,
+    pub line: Line,
+    pub error: u64,
+    pub latest: i64,
+    pub generation: u32,
+    pub word: u8,
+    pub started: u8,
+}
+
 // An update's word and arguments. The word's flags say which arguments count.
+#[repr(C)]
 pub struct Request {
     pub word: u64,
     pub synthetic: i64,
@@ -57,12 +72,14 @@ pub struct Updated {
 }
 
 // A reading, 0 where it is refused.
+#[repr(C)]
 pub struct Reading {
     pub refusal: u8,
     pub value: i64,
 }
 
 // What a clock tells of itself at a time.
+#[repr(C)]
 pub struct Details {
     pub started: bool,
     pub line: Line,
@@ -75,6 +92,7 @@ pub struct Details {
 }
 
 // Details beside their refusal, which leaves them zeros.
+#[repr(C)]
 pub struct Detailed {
     pub refusal: u8,
     pub details: Details,
@@ -320,7 +338,7 @@ fn time_refusal(latest: i64, now: i64) -> u8
     next(r, now < latest, refusal::NOW_EARLY)
 }
 
-fn creation_refusal(word: u8, backstop: i64, now: i64) -> u8
+pub fn creation_refusal(word: u8, backstop: i64, now: i64) -> u8
     ensures { λ r. ⌜ r ≡ first (creationTable word backstop now) ⌝ }
 {
     let monotonic = is_monotonic(word);
@@ -363,13 +381,13 @@ fn is_monotonic(word: u8) -> bool
     word / Clock::MONOTONIC % 2 == 1
 }
 
-fn is_continuous(word: u8) -> bool
+pub fn is_continuous(word: u8) -> bool
     ensures { λ r. ⌜ r ≡ continuous word ⌝ }
 {
     word / Clock::CONTINUOUS % 2 == 1
 }
 
-fn is_auto_start(word: u8) -> bool
+pub fn is_auto_start(word: u8) -> bool
     ensures { λ r. ⌜ r ≡ autoStart word ⌝ }
 {
     word / Clock::AUTO_START % 2 == 1
@@ -426,7 +444,8 @@ fn zero_line() -> Line
     through(0, 0, 0)
 }
 
-fn no_details() -> Details
+// Details of zeros.
+pub fn no_details() -> Details
     ensures { λ r. ⌜ r ≡ zeroDetails ⌝ }
 {
     let line = zero_line();

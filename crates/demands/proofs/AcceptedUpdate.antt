@@ -1,5 +1,5 @@
 -- What an accepted update leaves known of its arguments and of its new line.
-use mathlib.Core.Path.{_≡_, refl, subst}
+use mathlib.Core.Path.{_≡_, refl, _∙_, subst}
 use mathlib.Core.Bool.{Bool, true, false, not, cond, _&&_, _||_}
 use lib.IntN.{ℤ, pos}
 use lib.Signed.{ltZ, _≤ℤ_}
@@ -15,7 +15,7 @@ use Rattle.clock.specs.declared.Request.{Request}
 use Rattle.clock.proofs.Tests.{neither-left, neither-right, fails-second, both, other, by-cases}
 use Rattle.clock.proofs.Ranges.{not-less, ≤ℤ-refl, in-range}
 use Rattle.clock.proofs.Requests.{place-in-range, rate-permitted, old-drawable}
-use Rattle.clock.proofs.ValueLaws.{value-at-reference, running-old-value, above-backstop}
+use Rattle.clock.proofs.ValueLaws.{value-at-reference, running-line, running-old-value, above-backstop}
 use Rattle.demands.proofs.Rows.{row1, row2, row5, row6, row8, row9, row10, row12, row13, row14}
 
 -- ---- the effect table
@@ -33,6 +33,14 @@ unfolding effect
 effect-unreplaced true a l P S new n = absurd n
 effect-unreplaced false true l P S new n = absurd n
 effect-unreplaced false false l P S new n = refl
+
+-- a line that is replaced begins at P
+effect-place : (s a : Bool) (l : Line) (P S new : ℤ) → T (s || a) → effect s a l P S new .reference ≡ P
+unfolding effect
+effect-place true true l P S new r = refl
+effect-place true false l P S new r = refl
+effect-place false true l P S new r = refl
+effect-place false false l P S new r = absurd r
 
 -- a line turned at now has its old value there
 effect-turned : (s a : Bool) (l : Line) (S new now : ℤ) → T (not s) → valueAt (effect s a l now S new) now ≡ valueAt l now
@@ -66,7 +74,7 @@ module _ (c : Clock) (u : Request) (now : ℤ) (t : T (accepted c (update u now)
   unfolding newLine
   unreplaced n = effect-unreplaced (hasSynthetic u) (hasRate u) (oldLine c) (place u now) (u .synthetic) (u .rate) n
 
-  unreplaced-started : T (not (replaces u)) → T (c .started)
+  pub unreplaced-started : T (not (replaces u)) → T (c .started)
   unfolding updated
   unreplaced-started n = other (c .started) (hasSynthetic u) updated-started (neither-left (hasSynthetic u) (hasRate u) n)
 
@@ -114,3 +122,26 @@ module _ (c : Clock) (u : Request) (now : ℤ) (t : T (accepted c (update u now)
       go false n =
           effect-turned (hasSynthetic u) (hasRate u) (oldLine c) (u .synthetic) (u .rate) now
           (fails-second (continuous (c .word) && c .started) (hasSynthetic u) (both (continuous (c .word)) (c .started) k s) (row10 c u now t))
+
+  -- a line that isn't replaced stays
+  pub kept-line : T (not (replaces u)) → newLine c u now ≡ c .line
+  kept-line n = unreplaced n ∙ running-line c (unreplaced-started n)
+
+  -- a line that replaces another is not above END at now
+  pub replaced-not-above : T (replaces u) → valueAt (newLine c u now) now ≤ℤ END
+  replaced-not-above r =
+      let new = newLine c u now in
+      let beyond = timeOutside (new .synthetic) in
+      let tooHigh = ltZ END (valueAt new now) in
+      not-less END (valueAt new now) (neither-right beyond tooHigh (fails-second (replaces u) (beyond || tooHigh) r (row12 c u now t)))
+
+  -- by row 9 the new line of a continuous clock begins at now
+  pub replaced-at-now : T (continuous (c .word)) → T (replaces u) → newLine c u now .reference ≡ now
+  unfolding newLine place
+  replaced-at-now k r =
+      effect-place (hasSynthetic u) (hasRate u) (oldLine c) (place u now) (u .synthetic) (u .rate) r
+      ∙ at-now (hasReference u) (fails-second (continuous (c .word)) (hasReference u) k (row9 c u now t))
+    where
+      at-now : (p : Bool) → T (not p) → cond p (u .reference) now ≡ now
+      at-now true n = absurd n
+      at-now false n = refl

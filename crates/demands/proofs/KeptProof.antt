@@ -59,7 +59,7 @@ stays-started = kept-by-all (λ c. T (c .started)) after-started
 pub reading-above : (c : Clock) (v t : ℤ) → Valid c → Known c v t → c .backstop ≤ℤ v
 reading-above c v t valid k = subst (λ (x : ℤ). c .backstop ≤ℤ x) (k .is) (above-backstop c t valid (k .late))
 
-reading-in-range : (c : Clock) (k : Call) → Valid c → ReadingInRange (given c k)
+pub reading-in-range : (c : Clock) (k : Call) → Valid c → ReadingInRange (given c k)
 reading-in-range c k valid = of-given ReadingInRange c k tt
     (λ v t known. record { low = ≤ℤ-trans (valid .backstop .low) (reading-above c v t valid known); high = known .high })
 

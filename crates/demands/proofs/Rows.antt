@@ -106,19 +106,6 @@ unfolding creating
 gives word backstop now e =
     ap (λ (n : ℕ). cond (eqb n 0) (some (created word backstop now)) none) e
 
-module _ (word : ℕ) (backstop now : ℤ) (e : creationRefusal word backstop now ≡ 0) where
-  pub created-row1 : T (not (timeOutside now))
-  unfolding creationRefusal creationTable
-  created-row1 = passed 1 (creationTable word backstop now) tt e
-
-  pub created-row16 : T (not (timeOutside backstop))
-  unfolding creationRefusal creationTable
-  created-row16 = passed 16 (creationTable word backstop now) tt e
-
-  pub created-row17 : T (not (autoStart word && ltZ now backstop))
-  unfolding creationRefusal creationTable
-  created-row17 = passed 17 (creationTable word backstop now) tt e
-
 -- ---- a reading
 
 -- what is known of a reading v at t that a call gives

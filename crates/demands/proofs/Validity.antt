@@ -14,10 +14,11 @@ use Rattle.clock.specs.Calls.{Call, update, ask, accepted, after, afterAll}
 use Rattle.clock.specs.declared.Clock.{Clock}
 use Rattle.clock.specs.declared.Request.{Request}
 use Rattle.clock.proofs.Ranges.{not-less, in-range}
+use Rattle.clock.proofs.Creations.{created-row1, created-row16, created-row17}
 use Rattle.clock.proofs.Requests.{identity-drawable}
 use Rattle.clock.proofs.ValueLaws.{identity-value}
 use Rattle.demands.specs.Lives.{Gave}
-use Rattle.demands.proofs.Rows.{either-way, gave, created-row1, created-row16, created-row17}
+use Rattle.demands.proofs.Rows.{either-way, gave}
 use Rattle.demands.proofs.AcceptedUpdate.{now-in-range, new-drawable, new-above-backstop}
 use Rattle.demands.proofs.Walks.{kept-by-all}
 
