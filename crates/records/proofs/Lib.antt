@@ -1,0 +1,4 @@
+pub mod Lines
+pub mod Reach
+pub mod Taken
+pub mod Records
