@@ -21,12 +21,14 @@ use clock::refusal::next;
 pub mod refusal;
 
 // A request that was read, and its refusal. A refused one is zeros.
+#[repr(C)]
 pub struct Received {
     pub request: Request,
     pub refusal: u8,
 }
 
 // How many bytes were written, 0 where it is refused.
+#[repr(C)]
 pub struct Written {
     pub length: usize,
     pub refusal: u8,

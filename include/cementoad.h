@@ -1,0 +1,253 @@
+/* Cementoad: a clock that cannot lie, and its update slips.
+ *
+ * Link with target/staticlib/libcementoad.a, which tools/archive makes for x86-64 Linux. Times and values are whole
+ * nanoseconds. Any number may be handed in, in any field; each function ends, and answers a value or one numbered refusal.
+ * A refusal of 0 is none. Nothing is allocated, nothing is kept between calls, and no function needs a lock. */
+#ifndef CEMENTOAD_H
+#define CEMENTOAD_H
+
+#include <stdbool.h>
+#include <stddef.h>
+#include <stdint.h>
+
+/* An answer that is dropped is an update that is lost. */
+#if defined(__GNUC__)
+#define CEMENTOAD_ANSWERS __attribute__((warn_unused_result))
+#else
+#define CEMENTOAD_ANSWERS
+#endif
+
+#ifdef __cplusplus
+extern "C" {
+#endif
+
+/* ---- numbers */
+
+/* The end of the range of times and values, 2^61 - 1. */
+#define CEMENTOAD_END INT64_C(2305843009213693951)
+/* The widest rate adjustment, in parts per million. */
+#define CEMENTOAD_MAX_RATE INT32_C(1000)
+/* The error bound that means unknown. */
+#define CEMENTOAD_UNKNOWN_ERROR UINT64_MAX
+/* The bytes of the longest slip. */
+#define CEMENTOAD_LONGEST_SLIP 27
+
+/* The bits of a creation word: readings never fall while the times don't; the line is never broken; the clock starts at creation. */
+#define CEMENTOAD_MONOTONIC UINT8_C(128)
+#define CEMENTOAD_CONTINUOUS UINT8_C(64)
+#define CEMENTOAD_AUTO_START UINT8_C(32)
+
+/* The parts of an update word: its version, and a flag for each argument. */
+#define CEMENTOAD_VERSION_2 (UINT64_C(2) << 58)
+#define CEMENTOAD_SYNTHETIC (UINT64_C(1) << 57)
+#define CEMENTOAD_REFERENCE (UINT64_C(1) << 56)
+#define CEMENTOAD_RATE (UINT64_C(1) << 55)
+#define CEMENTOAD_ERROR (UINT64_C(1) << 54)
+
+/* ---- refusals, by the paper's numbers */
+
+enum cementoad_refusal {
+    /* Nothing is refused. */
+    CEMENTOAD_NO_REFUSAL = 0,
+    /* Now is outside 0..END. */
+    CEMENTOAD_NOW_OUTSIDE = 1,
+    /* Now is before the latest accepted update, or creation. */
+    CEMENTOAD_NOW_EARLY = 2,
+    /* A word has another version or an unknown bit. */
+    CEMENTOAD_WORD_WRONG = 3,
+    /* Nothing is flagged. */
+    CEMENTOAD_NOTHING_FLAGGED = 4,
+    /* A flagged synthetic or reference is outside 0..END. */
+    CEMENTOAD_VALUE_OUTSIDE = 5,
+    /* A flagged rate is outside -1000..1000. */
+    CEMENTOAD_RATE_OUTSIDE = 6,
+    /* Reference is flagged, but neither synthetic nor rate. */
+    CEMENTOAD_REFERENCE_ALONE = 7,
+    /* The clock is not started and synthetic is not flagged. */
+    CEMENTOAD_NOT_STARTED = 8,
+    /* The clock is continuous and reference is flagged. */
+    CEMENTOAD_CONTINUOUS_REFERENCE = 9,
+    /* The clock is continuous and started, and synthetic is flagged. */
+    CEMENTOAD_CONTINUOUS_SET = 10,
+    /* The clock is monotonic and started, and synthetic and rate are both flagged. */
+    CEMENTOAD_MONOTONIC_SET_AND_RATE = 11,
+    /* The new line starts outside 0..END, or the value at now is above END. */
+    CEMENTOAD_LINE_OUTSIDE = 12,
+    /* The new line's value at now is below the backstop. */
+    CEMENTOAD_BELOW_BACKSTOP = 13,
+    /* The clock is monotonic and started, and the new value at now is below the old one. */
+    CEMENTOAD_MONOTONIC_BACK = 14,
+    /* Creation: continuous without monotonic. */
+    CEMENTOAD_CONTINUOUS_NOT_MONOTONIC = 15,
+    /* Creation: the backstop is outside 0..END. */
+    CEMENTOAD_BACKSTOP_OUTSIDE = 16,
+    /* Creation: auto start with the backstop above now. */
+    CEMENTOAD_BACKSTOP_AHEAD = 17,
+    /* A slip has fewer than 2 bytes, or fewer than its header calls for. */
+    CEMENTOAD_SLIP_SHORT = 18,
+    /* A padding bit of a slip is set. */
+    CEMENTOAD_PADDING_SET = 19,
+    /* Bytes are left over behind a slip. */
+    CEMENTOAD_BYTES_LEFT_OVER = 20,
+    /* The buffer is shorter than the slip. */
+    CEMENTOAD_BUFFER_SHORT = 21,
+    /* Not of the paper, and checked before all others: the record is none that creation and accepted updates can give. */
+    CEMENTOAD_NOT_A_CLOCK = 255
+};
+
+/* Whether the refusal's public name is INVALID_ARGS. */
+static inline bool cementoad_is_invalid_args(uint8_t refusal)
+{
+    return refusal >= CEMENTOAD_WORD_WRONG && refusal <= CEMENTOAD_BACKSTOP_AHEAD;
+}
+
+/* ---- structs. Bytes between the fields may hold anything: compare and store structs field by field. */
+
+/* A line through the point (reference, synthetic) that gains 1,000,000 + rate millionths of a nanosecond in each nanosecond. */
+struct cementoad_line {
+    /* The reference time at which the line begins, in nanoseconds. */
+    int64_t reference;
+    /* Its value there, in nanoseconds. */
+    int64_t synthetic;
+    /* The rate adjustment, in parts per million. */
+    int32_t rate;
+};
+
+/* A clock as a record of numbers. Take it from cementoad_create and cementoad_update, and hand it on as it is. A record filled in by
+ * hand is no clock, and nothing is promised of its readings; what creation and accepted updates can't give, zeros among it, is refused
+ * with CEMENTOAD_NOT_A_CLOCK (but for one kind, which docs/DECISIONS.md names). */
+struct cementoad_record {
+    /* No reading is below it. */
+    int64_t backstop;
+    /* The line that the clock follows, zeros before the start. */
+    struct cementoad_line line;
+    /* The error bound in nanoseconds, CEMENTOAD_UNKNOWN_ERROR where it is unknown. */
+    uint64_t error;
+    /* The time of the latest accepted update, or of creation before any. */
+    int64_t latest;
+    /* How often the line was replaced, from 1 at creation, wrapping to 0. */
+    uint32_t generation;
+    /* The creation word. */
+    uint8_t word;
+    /* 1 once the clock is started, 0 before. */
+    uint8_t started;
+};
+
+/* An update's word and arguments. The word's flags say which arguments count. */
+struct cementoad_request {
+    /* The version and the flags. */
+    uint64_t word;
+    /* The value to set, in nanoseconds. */
+    int64_t synthetic;
+    /* The reference time at which the new line begins, in nanoseconds; now where it isn't flagged. */
+    int64_t reference;
+    /* The rate adjustment, in parts per million. */
+    int32_t rate;
+    /* The error bound, in nanoseconds. */
+    uint64_t error;
+};
+
+/* A new clock. A refused creation gives zeros, which are not a clock. */
+struct cementoad_created {
+    struct cementoad_record clock;
+    uint8_t refusal;
+};
+
+/* The clock after an update, or the old record unaltered with a refusal. */
+struct cementoad_updated {
+    struct cementoad_record clock;
+    uint8_t refusal;
+};
+
+/* A reading, 0 where it is refused. */
+struct cementoad_reading {
+    uint8_t refusal;
+    int64_t value;
+};
+
+/* Whether a clock is started, false where the record is not a clock. */
+struct cementoad_started {
+    uint8_t refusal;
+    bool started;
+};
+
+/* What a clock tells of itself at a time. */
+struct cementoad_details {
+    /* Whether the clock is started. */
+    bool started;
+    /* The line that the clock follows, zeros before the start. */
+    struct cementoad_line line;
+    /* The error bound in nanoseconds, CEMENTOAD_UNKNOWN_ERROR where it is unknown. */
+    uint64_t error;
+    /* How often the line was replaced, from 1 at creation, wrapping to 0. */
+    uint32_t generation;
+    /* The time of the latest accepted update, or of creation before any. */
+    int64_t latest;
+    /* The creation word. */
+    uint8_t word;
+    /* No reading is below it. */
+    int64_t backstop;
+    /* The time that was asked about. */
+    int64_t now;
+};
+
+/* Details beside their refusal, which leaves them zeros. */
+struct cementoad_detailed {
+    uint8_t refusal;
+    struct cementoad_details details;
+};
+
+/* A request that was read from a slip, and its refusal. A refused one is word 0 and zero arguments. */
+struct cementoad_received {
+    struct cementoad_request request;
+    uint8_t refusal;
+};
+
+/* How many bytes of a slip were written, 0 where it is refused. */
+struct cementoad_written {
+    size_t length;
+    uint8_t refusal;
+};
+
+/* ---- clocks */
+
+/* A clock, or refusal 1, 3, 15, 16 or 17. Unless auto start is set the clock isn't started. */
+CEMENTOAD_ANSWERS
+struct cementoad_created cementoad_create(uint8_t word, int64_t backstop, int64_t now);
+
+/* The clock's value at now, the backstop before the start; or refusal 1, 2, 12 or 255. */
+CEMENTOAD_ANSWERS
+struct cementoad_reading cementoad_read(struct cementoad_record clock, int64_t now);
+
+/* The clock as the request leaves it, or unaltered with refusal 1 to 14 or 255. */
+CEMENTOAD_ANSWERS
+struct cementoad_updated cementoad_update(struct cementoad_record clock, struct cementoad_request request, int64_t now);
+
+/* What the clock tells of itself at now, or refusal 1, 2 or 255. */
+CEMENTOAD_ANSWERS
+struct cementoad_detailed cementoad_get_details(struct cementoad_record clock, int64_t now);
+
+/* Whether the clock is started, or refusal 255. */
+CEMENTOAD_ANSWERS
+struct cementoad_started cementoad_is_started(struct cementoad_record clock);
+
+/* ---- slips. A pointer is to as many bytes as the number behind it says, and is not NULL, also where the number is 0. */
+
+/* The request of a slip that is all of the bytes, or refusal 3, 6, 18, 19 or 20. */
+CEMENTOAD_ANSWERS
+struct cementoad_received cementoad_read_slip(const uint8_t *bytes, size_t length);
+
+/* Writes the request as a slip to the front of the buffer, or answers refusal 3, 5, 6 or 21. No other byte is touched, and none where
+ * it is refused. The old bytes have no effect, but they are read: fill a new buffer before lending it. */
+CEMENTOAD_ANSWERS
+struct cementoad_written cementoad_write_slip(struct cementoad_request request, uint8_t *buffer, size_t size);
+
+/* How many bytes a slip of this word has, by its flags alone. */
+CEMENTOAD_ANSWERS
+size_t cementoad_slip_length(uint64_t word);
+
+#ifdef __cplusplus
+}
+#endif
+
+#endif
