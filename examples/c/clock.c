@@ -1,0 +1,91 @@
+/* A clock is created, set, trimmed and read, with its requests passed on as slips; then a refusal is met. */
+#include <inttypes.h>
+#include <stdio.h>
+#include <stdlib.h>
+
+#include "cementoad.h"
+
+/* Ends the program where a step is refused that should be taken. */
+static void taken(const char *step, uint8_t refusal)
+{
+    if (refusal != CEMENTOAD_NO_REFUSAL) {
+        fprintf(stderr, "%s: refusal %d\n", step, refusal);
+        exit(EXIT_FAILURE);
+    }
+}
+
+/* The clock as the request leaves it. */
+static struct cementoad_record update(struct cementoad_record clock, struct cementoad_request request, int64_t now)
+{
+    struct cementoad_updated updated = cementoad_update(clock, request, now);
+    taken("update", updated.refusal);
+    return updated.clock;
+}
+
+static void print_started(struct cementoad_record clock)
+{
+    struct cementoad_started started = cementoad_is_started(clock);
+    taken("started", started.refusal);
+    printf(started.started ? "it is started\n" : "it is not started\n");
+}
+
+static void print_reading(struct cementoad_record clock, int64_t now)
+{
+    struct cementoad_reading reading = cementoad_read(clock, now);
+    taken("read", reading.refusal);
+    printf("at %" PRId64 " it reads %" PRId64 "\n", now, reading.value);
+}
+
+static void print_details(struct cementoad_record clock, int64_t now)
+{
+    struct cementoad_detailed detailed = cementoad_get_details(clock, now);
+    struct cementoad_line line = detailed.details.line;
+    taken("details", detailed.refusal);
+    printf("its line goes from %" PRId64 " at %" PRId64 " with %" PRId32 " ppm, generation %" PRIu32 "\n",
+           line.synthetic, line.reference, line.rate, detailed.details.generation);
+}
+
+/* The request, written as a slip and read back from its bytes. */
+static struct cementoad_request by_slip(struct cementoad_request request)
+{
+    uint8_t slip[CEMENTOAD_LONGEST_SLIP] = {0};
+    struct cementoad_written written = cementoad_write_slip(request, slip, sizeof slip);
+    taken("write slip", written.refusal);
+    printf("slip of %zu bytes:", cementoad_slip_length(request.word));
+    for (size_t i = 0; i < written.length; i++)
+        printf(" %02X", slip[i]);
+    printf("\n");
+    struct cementoad_received received = cementoad_read_slip(slip, written.length);
+    taken("read slip", received.refusal);
+    return received.request;
+}
+
+int main(void)
+{
+    printf("a plain clock is created at 0, with backstop 0\n");
+    struct cementoad_created created = cementoad_create(0, 0, 0);
+    taken("create", created.refusal);
+    struct cementoad_record clock = created.clock;
+    print_started(clock);
+    print_reading(clock, 0);
+
+    printf("it is set to 1500 at 100\n");
+    struct cementoad_request set = {.word = CEMENTOAD_VERSION_2 | CEMENTOAD_SYNTHETIC, .synthetic = 1500};
+    clock = update(clock, by_slip(set), 100);
+    print_started(clock);
+    print_reading(clock, 350);
+
+    printf("it is trimmed by -23 ppm at 1000100\n");
+    struct cementoad_request trim = {.word = CEMENTOAD_VERSION_2 | CEMENTOAD_RATE, .rate = -23};
+    clock = update(clock, by_slip(trim), 1000100);
+    print_reading(clock, 1000100);
+    print_reading(clock, 2000100);
+    print_details(clock, 2000100);
+
+    /* A refused update hands the clock back unaltered. */
+    trim.rate = 1001;
+    struct cementoad_updated refused = cementoad_update(clock, trim, 2000100);
+    printf("a trim by 1001 ppm at 2000100 gets refusal %d\n", refused.refusal);
+    print_reading(refused.clock, 2000100);
+    return refused.refusal == CEMENTOAD_RATE_OUTSIDE ? EXIT_SUCCESS : EXIT_FAILURE;
+}

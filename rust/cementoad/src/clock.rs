@@ -1,0 +1,137 @@
+//! Clocks, and what they tell of themselves.
+
+use crate::ffi::{self, Details};
+use crate::refusal::check;
+use crate::{Refusal, Request};
+
+/// A clock that creation gave and accepted updates carried on. It can be had in no other way.
+///
+/// It is a plain value of 56 bytes. It is not `Copy`, so that an update can't be lost on a copy by accident.
+///
+/// ```
+/// use cementoad::{Clock, Request};
+///
+/// // A plain clock, set to 1500 at 100 ns: it reads 1750 at 350.
+/// let mut clock = Clock::create(0, 0, 0)?;
+/// clock.update(&Request::new().synthetic(1500), 100)?;
+/// assert_eq!(clock.read(350), Ok(1750));
+///
+/// // Slowed down by 23 parts per million, it loses 23 ns in a millisecond.
+/// clock.update(&Request::new().rate(-23), 1_000_100)?;
+/// assert_eq!(clock.read(1_000_100), Ok(1_001_500));
+/// assert_eq!(clock.read(2_000_100), Ok(2_001_477));
+/// # Ok::<(), cementoad::Refusal>(())
+/// ```
+#[derive(Clone, Debug, PartialEq, Eq, Hash)]
+pub struct Clock {
+    record: ffi::Record,
+}
+
+impl Clock {
+    /// The end of the range of times and values, 2^61 - 1.
+    pub const END: i64 = (1 << 61) - 1;
+
+    /// The widest rate adjustment, in parts per million.
+    pub const MAX_RATE: i32 = 1000;
+
+    /// The error bound that means unknown.
+    pub const UNKNOWN_ERROR: u64 = u64::MAX;
+
+    /// The bit of a creation word for a clock whose readings never fall while the times don't.
+    pub const MONOTONIC: u8 = 128;
+
+    /// The bit of a creation word for a clock whose line is never broken. It asks for `MONOTONIC` too.
+    pub const CONTINUOUS: u8 = 64;
+
+    /// The bit of a creation word for a clock that starts at creation, as the line from 0 at 0.
+    pub const AUTO_START: u8 = 32;
+
+    /// A new clock, or refusal 1, 3, 15, 16 or 17. The word is made of `MONOTONIC`, `CONTINUOUS` and `AUTO_START`, or 0;
+    /// without `AUTO_START` the clock isn't started.
+    ///
+    /// ```
+    /// use cementoad::{Clock, Refusal};
+    ///
+    /// assert_eq!(Clock::create(Clock::AUTO_START, 5, 4), Err(Refusal::BackstopAhead));
+    /// assert!(Clock::create(Clock::AUTO_START, 5, 5)?.started());
+    /// assert_eq!(Clock::create(1, 0, 0), Err(Refusal::WordWrong));
+    /// # Ok::<(), Refusal>(())
+    /// ```
+    pub fn create(word: u8, backstop: i64, now: i64) -> Result<Clock, Refusal> {
+        let created = ffi::cementoad_create(word, backstop, now);
+        check(created.refusal)?;
+        Ok(Clock { record: created.clock })
+    }
+
+    /// The clock's value at now, which is the backstop before the start; or refusal 1, 2 or 12.
+    ///
+    /// ```
+    /// use cementoad::{Clock, Refusal, Request};
+    ///
+    /// let mut clock = Clock::create(0, 0, 0)?;
+    /// clock.update(&Request::new().synthetic(Clock::END), 0)?;
+    /// assert_eq!(clock.read(0), Ok(Clock::END));
+    /// assert_eq!(clock.read(1), Err(Refusal::LineOutside));
+    /// # Ok::<(), Refusal>(())
+    /// ```
+    pub fn read(&self, now: i64) -> Result<i64, Refusal> {
+        let reading = ffi::cementoad_read(self.record, now);
+        check(reading.refusal)?;
+        Ok(reading.value)
+    }
+
+    /// Alters the clock at now as the request says; or refusal 1 to 14, which leaves the clock unaltered.
+    ///
+    /// ```
+    /// use cementoad::{Clock, Refusal, Request};
+    ///
+    /// let mut clock = Clock::create(Clock::MONOTONIC, 0, 0)?;
+    /// clock.update(&Request::new().synthetic(1500), 100)?;
+    /// // At 350 the clock reads 1750, and may be set to that but not to less.
+    /// assert_eq!(clock.update(&Request::new().synthetic(1749), 350), Err(Refusal::MonotonicBack));
+    /// assert_eq!(clock.update(&Request::new().synthetic(1750), 350), Ok(()));
+    /// # Ok::<(), Refusal>(())
+    /// ```
+    pub fn update(&mut self, request: &Request, now: i64) -> Result<(), Refusal> {
+        let updated = ffi::cementoad_update(self.record, request.into(), now);
+        check(updated.refusal)?;
+        self.record = updated.clock;
+        Ok(())
+    }
+
+    /// What the clock tells of itself at now; or refusal 1 or 2.
+    ///
+    /// ```
+    /// use cementoad::{Clock, Request};
+    ///
+    /// let mut clock = Clock::create(0, 0, 0)?;
+    /// assert_eq!(clock.details(0)?.generation, 1);
+    /// assert_eq!(clock.details(0)?.error_bound(), None);
+    ///
+    /// clock.update(&Request::new().synthetic(1500).error(40), 100)?;
+    /// let details = clock.details(350)?;
+    /// assert_eq!((details.line.reference, details.line.synthetic), (100, 1500));
+    /// assert_eq!((details.generation, details.latest, details.now), (2, 100, 350));
+    /// assert_eq!(details.error_bound(), Some(40));
+    /// # Ok::<(), cementoad::Refusal>(())
+    /// ```
+    pub fn details(&self, now: i64) -> Result<Details, Refusal> {
+        let detailed = ffi::cementoad_get_details(self.record, now);
+        check(detailed.refusal)?;
+        Ok(detailed.details)
+    }
+
+    /// Whether the clock is started.
+    pub fn started(&self) -> bool {
+        let answer = ffi::cementoad_is_started(self.record);
+        check(answer.refusal).expect("the paper has no refusal for this");
+        answer.started
+    }
+}
+
+impl Details {
+    /// The error bound in nanoseconds, or `None` where it is unknown.
+    pub fn error_bound(&self) -> Option<u64> {
+        (self.error != Clock::UNKNOWN_ERROR).then_some(self.error)
+    }
+}

@@ -1,0 +1,183 @@
+//! The archive's own functions, as `include/cementoad.h` declares them. Each takes any numbers and ends; only the
+//! pointers of the two slip functions ask for care. Bytes between the fields of a struct may hold anything.
+
+/// The refusal of an answer in which nothing is refused.
+pub const NO_REFUSAL: u8 = 0;
+
+/// The refusal, not of the paper and checked before all others, of a record that creation and accepted updates can't give.
+pub const NOT_A_CLOCK: u8 = 255;
+
+/// A line through the point (reference, synthetic) that gains 1,000,000 + rate millionths of a nanosecond in each
+/// nanosecond.
+#[repr(C)]
+#[derive(Clone, Copy, Debug, Default, PartialEq, Eq, Hash)]
+pub struct Line {
+    /// The reference time of the point, in nanoseconds.
+    pub reference: i64,
+    /// The line's value there, in nanoseconds.
+    pub synthetic: i64,
+    /// The rate adjustment, in parts per million.
+    pub rate: i32,
+}
+
+/// A clock as a record of numbers. One filled in by hand is no clock, and nothing is promised of its readings; those that
+/// are found out are refused with [`NOT_A_CLOCK`].
+#[repr(C)]
+#[derive(Clone, Copy, Debug, Default, PartialEq, Eq, Hash)]
+pub struct Record {
+    /// The value below which the clock never reads.
+    pub backstop: i64,
+    /// The line that a started clock follows.
+    pub line: Line,
+    /// The error bound in nanoseconds, all ones where it is unknown.
+    pub error: u64,
+    /// The time of the latest accepted update, or of creation.
+    pub latest: i64,
+    /// How often the line was replaced, counted from 1 and from 2^32 - 1 on to 0.
+    pub generation: u32,
+    /// The creation word.
+    pub word: u8,
+    /// 1 if the clock is started, else 0.
+    pub started: u8,
+}
+
+/// An update's word and arguments. The word's flags say which arguments count.
+#[repr(C)]
+#[derive(Clone, Copy, Debug, Default, PartialEq, Eq, Hash)]
+pub struct Request {
+    /// The version and the flags.
+    pub word: u64,
+    /// The value to set, in nanoseconds.
+    pub synthetic: i64,
+    /// The reference time at which the new line starts, in nanoseconds.
+    pub reference: i64,
+    /// The rate adjustment, in parts per million.
+    pub rate: i32,
+    /// The error bound in nanoseconds, all ones where it is unknown.
+    pub error: u64,
+}
+
+/// A new clock, or zeros with a refusal.
+#[repr(C)]
+#[derive(Clone, Copy, Debug, PartialEq, Eq)]
+pub struct Created {
+    /// The new clock.
+    pub clock: Record,
+    /// The refusal's number, 0 for none.
+    pub refusal: u8,
+}
+
+/// The clock after an update, or the old record unaltered with a refusal.
+#[repr(C)]
+#[derive(Clone, Copy, Debug, PartialEq, Eq)]
+pub struct Updated {
+    /// The clock after the update.
+    pub clock: Record,
+    /// The refusal's number, 0 for none.
+    pub refusal: u8,
+}
+
+/// A reading, 0 where it is refused.
+#[repr(C)]
+#[derive(Clone, Copy, Debug, PartialEq, Eq)]
+pub struct Reading {
+    /// The refusal's number, 0 for none.
+    pub refusal: u8,
+    /// The clock's value, in nanoseconds.
+    pub value: i64,
+}
+
+/// Whether a clock is started, false where it is refused.
+#[repr(C)]
+#[derive(Clone, Copy, Debug, PartialEq, Eq)]
+pub struct Started {
+    /// The refusal's number, 0 for none.
+    pub refusal: u8,
+    /// Whether the clock is started.
+    pub started: bool,
+}
+
+/// What a clock tells of itself at a time.
+#[repr(C)]
+#[derive(Clone, Copy, Debug, Default, PartialEq, Eq, Hash)]
+pub struct Details {
+    /// Whether the clock is started.
+    pub started: bool,
+    /// The line that the clock follows, zeros before the start.
+    pub line: Line,
+    /// The error bound in nanoseconds, all ones where it is unknown.
+    pub error: u64,
+    /// How often the line was replaced, counted from 1 and from 2^32 - 1 on to 0.
+    pub generation: u32,
+    /// The time of the latest accepted update, or of creation.
+    pub latest: i64,
+    /// The creation word.
+    pub word: u8,
+    /// The value below which the clock never reads.
+    pub backstop: i64,
+    /// The time at which the details were asked for.
+    pub now: i64,
+}
+
+/// Details beside their refusal, which leaves them zeros.
+#[repr(C)]
+#[derive(Clone, Copy, Debug, PartialEq, Eq)]
+pub struct Detailed {
+    /// The refusal's number, 0 for none.
+    pub refusal: u8,
+    /// What the clock tells of itself.
+    pub details: Details,
+}
+
+/// A request that was read from a slip, zeros where it is refused.
+#[repr(C)]
+#[derive(Clone, Copy, Debug, PartialEq, Eq)]
+pub struct Received {
+    /// The slip's request.
+    pub request: Request,
+    /// The refusal's number, 0 for none.
+    pub refusal: u8,
+}
+
+/// How many bytes of a slip were written, 0 where it is refused.
+#[repr(C)]
+#[derive(Clone, Copy, Debug, PartialEq, Eq)]
+pub struct Written {
+    /// The slip's bytes, at the front of the buffer.
+    pub length: usize,
+    /// The refusal's number, 0 for none.
+    pub refusal: u8,
+}
+
+// The safe ones take and give numbers alone, and each is proved to end and answer for any of them.
+unsafe extern "C" {
+    /// A clock, or refusal 1, 3, 15, 16 or 17.
+    pub safe fn cementoad_create(word: u8, backstop: i64, now: i64) -> Created;
+
+    /// The clock's value at now, or refusal 1, 2, 12 or 255.
+    pub safe fn cementoad_read(clock: Record, now: i64) -> Reading;
+
+    /// The clock as the request leaves it, or unaltered with refusal 1 to 14 or 255.
+    pub safe fn cementoad_update(clock: Record, request: Request, now: i64) -> Updated;
+
+    /// What the clock tells of itself at now, or refusal 1, 2 or 255.
+    pub safe fn cementoad_get_details(clock: Record, now: i64) -> Detailed;
+
+    /// Whether the clock is started, or refusal 255.
+    pub safe fn cementoad_is_started(clock: Record) -> Started;
+
+    /// The request of a slip that is all of the bytes, or refusal 3, 6, 18, 19 or 20.
+    ///
+    /// # Safety
+    /// `bytes` points to `length` bytes that can be read, and is not null, also where `length` is 0.
+    pub unsafe fn cementoad_read_slip(bytes: *const u8, length: usize) -> Received;
+
+    /// Writes the request as a slip to the front of the buffer, or answers refusal 3, 5, 6 or 21 and writes nothing.
+    ///
+    /// # Safety
+    /// `buffer` points to `size` bytes that are initialised and can be written, and is not null, also where `size` is 0.
+    pub unsafe fn cementoad_write_slip(request: Request, buffer: *mut u8, size: usize) -> Written;
+
+    /// How many bytes a slip of this word has, by its flags alone.
+    pub safe fn cementoad_slip_length(word: u64) -> usize;
+}

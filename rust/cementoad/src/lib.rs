@@ -1,0 +1,40 @@
+//! A clock that cannot lie, and its update slips.
+//!
+//! The work is done by a static archive that is proved: each answer is exactly the one that the rules give, for any
+//! words, numbers, times and bytes that are handed in. This crate puts Rust's own idioms around it and decides nothing.
+//! Times and values are whole nanoseconds in 0..[`Clock::END`], rates are whole parts per million.
+//!
+//! ```
+//! use cementoad::{Clock, Refusal, Request};
+//!
+//! // A plain clock is started, and read.
+//! let mut clock = Clock::create(0, 0, 0)?;
+//! clock.update(&Request::new().synthetic(1500), 100)?;
+//! assert_eq!(clock.read(350), Ok(1750));
+//!
+//! // A request travels as a slip, and trims the clock.
+//! let slip = Request::new().rate(-23).to_slip()?;
+//! assert_eq!(slip, [0x08, 0x80, 0x7a, 0x20]);
+//! clock.update(&Request::from_slip(&slip)?, 1_000_100)?;
+//! assert_eq!(clock.read(2_000_100), Ok(2_001_477));
+//!
+//! // A refusal leaves the clock unaltered.
+//! assert_eq!(clock.update(&Request::new().rate(1001), 2_000_100), Err(Refusal::RateOutside));
+//! assert_eq!(clock.read(2_000_100), Ok(2_001_477));
+//! # Ok::<(), Refusal>(())
+//! ```
+#![deny(missing_docs)]
+
+mod clock;
+pub mod ffi;
+mod refusal;
+mod request;
+
+#[cfg(doctest)]
+#[doc = include_str!("../../../README.md")]
+struct Readme;
+
+pub use clock::Clock;
+pub use ffi::{Details, Line};
+pub use refusal::{Refusal, UnknownRefusal};
+pub use request::Request;

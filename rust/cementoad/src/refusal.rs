@@ -1,0 +1,152 @@
+//! The numbered refusals.
+
+use std::error::Error;
+use std::fmt;
+
+use crate::ffi;
+
+/// Makes `Refusal` of its table: number, case, name and what it says.
+macro_rules! refusals {
+    ($(($number:literal, $case:ident, $name:literal, $sentence:literal);)*) => {
+        /// Why something was refused, by the paper's number. Where several apply, it is the first in the order of the
+        /// checks. Later versions may know more.
+        ///
+        /// ```
+        /// use cementoad::Refusal;
+        ///
+        /// let refusal = Refusal::RateOutside;
+        /// assert_eq!(refusal.number(), 6);
+        /// assert_eq!(refusal.public_name(), "INVALID_ARGS");
+        /// assert_eq!(refusal.to_string(), "refusal 6: a flagged rate is outside -1000..1000");
+        /// assert_eq!(Refusal::try_from(6), Ok(refusal));
+        /// ```
+        #[repr(u8)]
+        #[non_exhaustive]
+        #[derive(Clone, Copy, Debug, PartialEq, Eq, Hash)]
+        pub enum Refusal {
+            $(#[doc = concat!("Refusal ", $number, ", `", $name, "`: ", $sentence, ".")] $case = $number,)*
+        }
+
+        impl Refusal {
+            /// All refusals, in the order of their numbers.
+            pub const ALL: &[Refusal] = &[$(Refusal::$case),*];
+
+            /// The refusal's own name, as in the C header without its prefix.
+            pub const fn name(self) -> &'static str {
+                match self {
+                    $(Refusal::$case => $name,)*
+                }
+            }
+
+            const fn sentence(self) -> &'static str {
+                match self {
+                    $(Refusal::$case => $sentence,)*
+                }
+            }
+        }
+
+        impl TryFrom<u8> for Refusal {
+            type Error = UnknownRefusal;
+
+            fn try_from(number: u8) -> Result<Refusal, UnknownRefusal> {
+                match number {
+                    $($number => Ok(Refusal::$case),)*
+                    _ => Err(UnknownRefusal(number)),
+                }
+            }
+        }
+    };
+}
+
+refusals! {
+    (1, NowOutside, "NOW_OUTSIDE", "now is outside 0..END");
+    (2, NowEarly, "NOW_EARLY", "now is before the latest accepted update or creation");
+    (3, WordWrong, "WORD_WRONG", "a word has another version or an unknown bit");
+    (4, NothingFlagged, "NOTHING_FLAGGED", "nothing is flagged");
+    (5, ValueOutside, "VALUE_OUTSIDE", "a flagged synthetic or reference is outside 0..END");
+    (6, RateOutside, "RATE_OUTSIDE", "a flagged rate is outside -1000..1000");
+    (7, ReferenceAlone, "REFERENCE_ALONE", "reference is flagged, but neither synthetic nor rate");
+    (8, NotStarted, "NOT_STARTED", "the clock is not started and synthetic is not flagged");
+    (9, ContinuousReference, "CONTINUOUS_REFERENCE", "the clock is continuous and reference is flagged");
+    (10, ContinuousSet, "CONTINUOUS_SET", "the clock is continuous and started, and synthetic is flagged");
+    (11, MonotonicSetAndRate, "MONOTONIC_SET_AND_RATE",
+        "the clock is monotonic and started, and synthetic and rate are both flagged");
+    (12, LineOutside, "LINE_OUTSIDE", "the new line starts outside 0..END, or the value at now is above END");
+    (13, BelowBackstop, "BELOW_BACKSTOP", "the new line's value at now is below the backstop");
+    (14, MonotonicBack, "MONOTONIC_BACK",
+        "the clock is monotonic and started, and the new value at now is below the old one");
+    (15, ContinuousNotMonotonic, "CONTINUOUS_NOT_MONOTONIC", "a new clock is to be continuous without being monotonic");
+    (16, BackstopOutside, "BACKSTOP_OUTSIDE", "a new clock's backstop is outside 0..END");
+    (17, BackstopAhead, "BACKSTOP_AHEAD", "a new clock is to start at once and its backstop is above now");
+    (18, SlipShort, "SLIP_SHORT", "a slip has fewer than 2 bytes, or fewer than its header calls for");
+    (19, PaddingSet, "PADDING_SET", "a padding bit of a slip is set");
+    (20, BytesLeftOver, "BYTES_LEFT_OVER", "bytes are left over behind a slip");
+    (21, BufferShort, "BUFFER_SHORT", "the buffer is shorter than the slip");
+}
+
+impl Refusal {
+    /// The paper's number, 1 to 21.
+    pub const fn number(self) -> u8 {
+        self as u8
+    }
+
+    /// The public name: `INVALID_ARGS` for 3 to 17, their own name for the others.
+    pub const fn public_name(self) -> &'static str {
+        match self.number() {
+            3..=17 => "INVALID_ARGS",
+            _ => self.name(),
+        }
+    }
+}
+
+impl fmt::Display for Refusal {
+    fn fmt(&self, f: &mut fmt::Formatter<'_>) -> fmt::Result {
+        write!(f, "refusal {}: {}", self.number(), self.sentence())
+    }
+}
+
+impl Error for Refusal {}
+
+/// A number that is none of the paper's refusals: 0, or one above 21.
+#[derive(Clone, Copy, Debug, PartialEq, Eq, Hash)]
+pub struct UnknownRefusal(
+    /// The number.
+    pub u8,
+);
+
+impl fmt::Display for UnknownRefusal {
+    fn fmt(&self, f: &mut fmt::Formatter<'_>) -> fmt::Result {
+        write!(f, "{} is not the number of a refusal", self.0)
+    }
+}
+
+impl Error for UnknownRefusal {}
+
+/// Turns the number in an answer of the archive into a result.
+///
+/// # Panics
+/// For a number that is neither 0 nor one of the paper's. The archive has none for what this crate hands in: 255 (not a
+/// clock) is for records that no `Clock` holds. Such a number means that archive and crate don't belong together, and
+/// no answer can be trusted then. A case of its own in `Refusal` would ask every caller to handle what can't be handled.
+pub(crate) fn check(number: u8) -> Result<(), Refusal> {
+    match number {
+        ffi::NO_REFUSAL => Ok(()),
+        _ => Err(Refusal::try_from(number).expect("the archive answers a refusal of the paper")),
+    }
+}
+
+#[cfg(test)]
+mod tests {
+    use super::*;
+
+    #[test]
+    fn zero_is_no_refusal() {
+        assert_eq!(check(ffi::NO_REFUSAL), Ok(()));
+    }
+
+    #[test]
+    #[should_panic(expected = "UnknownRefusal(255)")]
+    fn no_clock_is_not_a_clock() {
+        let _ = check(ffi::NOT_A_CLOCK);
+    }
+}
