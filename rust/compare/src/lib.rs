@@ -1,0 +1,40 @@
+//! Compares the library with the second program over lists of calls: every number of every answer and every byte of every buffer,
+//! refused or not; and holds the answers against the customer's demands 2 and 3. A record made up by hand must be answered 255 exactly
+//! where no list of calls leads to it. The lines that the library's programs printed are among the lists, and are told again from the
+//! second program's answers.
+
+mod call;
+mod demands;
+mod edges;
+mod fault;
+mod fixed;
+mod generate;
+mod given;
+#[cfg(feature = "library")]
+mod library;
+mod rng;
+mod run;
+mod search;
+mod second_side;
+mod shrink;
+mod side;
+mod stored;
+mod tally;
+
+pub use call::Call;
+pub use fault::Fault;
+pub use given::Part;
+pub use run::{Sides, differs};
+pub use search::{Finding, Outcome, search, search_made, search_made_for};
+pub use second_side::second_side;
+pub use side::Side;
+pub use stored::{StoredFile, Unlike, stored_files};
+pub use tally::Tally;
+
+/// The library, or where it is not linked the second program in its place.
+pub fn library_side() -> Box<dyn Side> {
+    #[cfg(feature = "library")]
+    return Box::new(library::Library);
+    #[cfg(not(feature = "library"))]
+    return second_side(Fault::NONE);
+}
