@@ -115,7 +115,7 @@ struct cementoad_line {
 
 /* A clock as a record of numbers. Take it from cementoad_create and cementoad_update, and hand it on as it is. A record filled in by
  * hand is no clock, and nothing is promised of its readings; what creation and accepted updates can't give, zeros among it, is refused
- * with CEMENTOAD_NOT_A_CLOCK (but for one kind, which docs/DECISIONS.md names). */
+ * with CEMENTOAD_NOT_A_CLOCK. Of running records one kind is known that is not found out (docs/DECISIONS.md). */
 struct cementoad_record {
     /* No reading is below it. */
     int64_t backstop;
@@ -125,7 +125,7 @@ struct cementoad_record {
     uint64_t error;
     /* The time of the latest accepted update, or of creation before any. */
     int64_t latest;
-    /* How often the line was replaced, from 1 at creation, wrapping to 0. */
+    /* 1 at creation, one more each time the line is replaced, from 2^32 - 1 to 0. */
     uint32_t generation;
     /* The creation word. */
     uint8_t word;
@@ -179,7 +179,7 @@ struct cementoad_details {
     struct cementoad_line line;
     /* The error bound in nanoseconds, CEMENTOAD_UNKNOWN_ERROR where it is unknown. */
     uint64_t error;
-    /* How often the line was replaced, from 1 at creation, wrapping to 0. */
+    /* 1 at creation, one more each time the line is replaced, from 2^32 - 1 to 0. */
     uint32_t generation;
     /* The time of the latest accepted update, or of creation before any. */
     int64_t latest;

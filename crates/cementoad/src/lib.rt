@@ -1,5 +1,5 @@
 // The clock's and the slips' operations for callers in C and Rust, over numbers, structs of numbers and lent bytes. include/cementoad.h
-// declares them. Anything may be handed in: a record that can't be a clock's is refused by a number of its own.
+// declares them. Anything may be handed in: a record that crate records does not take for a clock's is refused by a number of its own.
 ghost use mathlib.Core.Path.{_≡_};
 ghost use Rattle.slip.specs.Layout.{asking, slipLength};
 ghost use Rattle.slip.specs.Reading.{readingSlip};

@@ -18,7 +18,7 @@ recordOf c = record {
   started = cond (c .started) 1 0;
 }
 
--- what a record would be as a clock
+-- what a record would be as a clock; a started byte other than 1 counts as not started
 abbrev pub clockOf : Record → Clock
 clockOf r = record {
   word = r .word;

@@ -37,7 +37,8 @@ pub struct Clock {
     latest: i64,
 }
 
-// A clock as a record of plain numbers, for callers in other languages. Any numbers may stand in it; started is 1 or 0.
+// A clock as a record of plain numbers, for callers in other languages. Any numbers may stand in it; in a clock's record
+// started is 1 or 0.
 #[repr(C)]
 pub struct Record {
     pub backstop: i64,

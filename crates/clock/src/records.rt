@@ -6,7 +6,7 @@ use crate::Clock;
 use crate::Record;
 
 impl Record {
-    // The record as a clock. Whoever asks has tested it: crate records does.
+    // The record as a clock, for a caller who proves that it is valid. A started byte other than 1 counts as not started.
     pub fn as_clock(self) -> Clock
         requires { ⌜ Valid (clockOf self) ⌝ }
         ensures { λ r. ⌜ r ≡ clockOf self ⌝ }

@@ -25,10 +25,11 @@ RecordsRestored = (word : ℕ) (backstop now : ℤ) (c : Clock) → Gave word ba
 abbrev pub StaysRestored : Type 0
 StaysRestored = (r : Record) (k : Call) → T (isClock r) → restoring (recordOf (after (clockOf r) k)) ≡ some (after (clockOf r) k)
 
--- what is taken for a clock meets what each operation requires, and no reading of it is below its backstop or outside the range
+-- what is taken for a clock meets what each operation requires
 abbrev pub TakenValid : Type 0
 TakenValid = (r : Record) → T (isClock r) → Valid (clockOf r)
 
+-- and no reading of it is below its backstop or outside 0..END
 abbrev pub TakenReadings : Type 0
 TakenReadings = (r : Record) (k : Call) → T (isClock r) →
     NotBelow (r .backstop) (given (clockOf r) k) × ReadingInRange (given (clockOf r) k)

@@ -32,10 +32,11 @@ showsBackstop l now backstop = leZ backstop (valueAt l now)
 unfoldable pub drawnInTime : Bool → Line → ℤ → Bool
 drawnInTime auto l backstop = not auto || leZ (valueAt l backstop) END
 
--- no rate takes an automatic start further than this
+-- an automatic start at the backstop's time with the widest rate: a continuous clock is never above this line (rules 10 and 17)
 abbrev pub fastest : ℤ → Line
 fastest backstop = line backstop backstop MAX_RATE
 
+-- the line begins no earlier than the backstop, at or below the fastest line
 unfoldable pub withinReach : Line → ℤ → Bool
 withinReach l backstop = leZ backstop (l .reference) && leZ (l .synthetic) (valueAt (fastest backstop) (l .reference))
 
@@ -43,7 +44,8 @@ withinReach l backstop = leZ backstop (l .reference) && leZ (l .synthetic) (valu
 unfoldable pub untouched : Clock → Bool
 untouched c = autoStart (c .word) && isIdentity (c .line) && eqb (c .generation) 1
 
--- a continuous clock's line begins at an update's time (rule 9), with a value that the clock showed then (rules 10 and 13)
+-- a continuous clock's line begins at an update's now (rule 9), so no later than the latest update, with the clock's value there, so not
+-- below the backstop (rules 10 and 13), and within reach of an automatic start
 unfoldable pub turned : Clock → Bool
 turned c =
     leZ (c .line .reference) (c .latest)

@@ -10,7 +10,7 @@ use clock::Record;
 use clock::arguments;
 use clock::value;
 
-// What a record stands for: a clock, or none that creation and accepted updates can give.
+// What a record stands for. Genuine: it is taken for a clock, as every clock's record is. MadeUp: creation and accepted updates can't give it.
 pub enum Restored {
     Genuine(Clock),
     MadeUp,
@@ -104,7 +104,7 @@ fn is_drawn_in_time(auto: bool, line: Line, backstop: i64) -> bool
     }
 }
 
-// Asked of a continuous clock that started by itnumbers.
+// Only asked of a continuous clock with auto start; else the answer is yes.
 fn is_within_reach(asked: bool, line: Line, backstop: i64) -> bool
     requires { ⌜ Drawable line × InRange backstop ⌝ }
     ensures { λ r. ⌜ r ≡ (not asked || withinReach line backstop) ⌝ }

@@ -33,7 +33,7 @@ pub struct Record {
     pub error: u64,
     /// The time of the latest accepted update, or of creation.
     pub latest: i64,
-    /// How often the line was replaced, counted from 1 and from 2^32 - 1 on to 0.
+    /// 1 at creation, one more each time the line is replaced, from 2^32 - 1 to 0.
     pub generation: u32,
     /// The creation word.
     pub word: u8,
@@ -107,7 +107,7 @@ pub struct Details {
     pub line: Line,
     /// The error bound in nanoseconds, all ones where it is unknown.
     pub error: u64,
-    /// How often the line was replaced, counted from 1 and from 2^32 - 1 on to 0.
+    /// 1 at creation, one more each time the line is replaced, from 2^32 - 1 to 0.
     pub generation: u32,
     /// The time of the latest accepted update, or of creation.
     pub latest: i64,
