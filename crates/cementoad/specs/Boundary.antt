@@ -1,9 +1,9 @@
 -- What the exported functions answer of a clock's record: what its rules say where it is taken for a clock, else one number of our own.
-use mathlib.Core.Bool.{Bool, false}
+use mathlib.Core.Bool.{false}
 use mathlib.Core.Option.{Option, none, some}
 use Prim.Native.Nat.{ℕ}
 use lib.IntN.{ℤ, pos}
-use Rattle.clock.specs.Creation.{Creation, creating}
+use Rattle.clock.specs.Creation.{creating}
 use Rattle.clock.specs.Reading.{reading}
 use Rattle.clock.specs.Update.{updating}
 use Rattle.clock.specs.Details.{isStarted, zeroDetails, detailing}

@@ -1,16 +1,15 @@
 -- How far a continuous clock that started by itself can get: never past the fastest line from its backstop.
-use mathlib.Core.Path.{_≡_, refl, sym}
-use Prim.Native.Nat.{ℕ, _+_, _*_, _≤_}
+use Prim.Native.Nat.{ℕ, _*_, _≤_}
 use native.Mathlib.Nat.{mul-le-mul-left}
 use native.Mathlib.Omega.{arith}
-use lib.IntN.{ℤ, pos, negsuc, _+ℤ_, _-ℤ_, _*ℤ_}
+use lib.IntN.{ℤ, pos, negsuc, _-ℤ_, _*ℤ_}
 use lib.Signed.{_≤ℤ_}
-use Rattle.clock.specs.Numbers.{MAX_RATE, million}
-use Rattle.clock.specs.Line.{slope, valueAt, exactAt}
+use Rattle.clock.specs.Numbers.{million}
+use Rattle.clock.specs.Line.{valueAt, exactAt}
 use Rattle.clock.specs.Clock.{Permitted}
 use Rattle.records.specs.Taken.{fastest}
 use Rattle.clock.specs.declared.Line.{Line}
-use Rattle.clock.proofs.Linear.{up, dn, ≤-lin, lin-≤, add-lin, minus-lin, times-lin}
+use Rattle.clock.proofs.Linear.{≤-lin, lin-≤, add-lin, minus-lin, times-lin}
 use Rattle.clock.proofs.ValueLaws.{value-exact, steep, floor-rises}
 
 -- the slope of the widest rate

@@ -5,17 +5,15 @@ use Prim.Native.Nat.{ℕ}
 use lib.IntN.{ℤ, pos, negsuc, negℤ}
 use lib.Signed.{ltZ, leZ, _≤ℤ_}
 use lib.Dec.{T, T-not, eqb, eqb→eq}
-use Rattle.clock.specs.Numbers.{END, MAX_RATE, outside, timeOutside, rateOutside}
+use Rattle.clock.specs.Numbers.{END, MAX_RATE, isZero, outside, timeOutside, rateOutside}
 use Rattle.clock.specs.Line.{line, identity, valueAt}
 use Rattle.clock.specs.Clock.{continuous, autoStart, Drawable, Valid}
 use Rattle.clock.specs.Creation.{creationRefusal, created, UNKNOWN_ERROR}
-use Rattle.clock.specs.Numbers.{isZero}
 use Rattle.records.specs.Taken.{isIdentity, drawable, showsBackstop, drawnInTime, fastest, withinReach, untouched, turned, running, resting, genuine}
-use Rattle.clock.specs.Calls.{update}
 use Rattle.clock.specs.declared.Line.{Line}
 use Rattle.clock.specs.declared.Clock.{Clock}
 use Rattle.clock.proofs.Tests.{fails-second, both, by-cases}
-use Rattle.clock.proofs.Tables.{and-left, and-right, test}
+use Rattle.clock.proofs.Tables.{and-left, and-right}
 use Rattle.clock.proofs.Ranges.{not-less, not-lt, in-range}
 use Rattle.clock.proofs.Requests.{identity-drawable}
 use Rattle.clock.proofs.Creations.{created-row1, created-row16, created-row17}

@@ -1,8 +1,7 @@
 -- Which records of plain numbers are taken for clocks.
-use mathlib.Core.Bool.{Bool, false, not, cond, _&&_, _||_}
+use mathlib.Core.Bool.{Bool, not, cond, _&&_, _||_}
 use mathlib.Core.Option.{Option, none, some}
-use Prim.Native.Nat.{ℕ}
-use lib.IntN.{ℤ, pos, negsuc}
+use lib.IntN.{ℤ}
 use lib.Signed.{leZ}
 use lib.Dec.{eqb, leb}
 use Rattle.clock.specs.Numbers.{END, MAX_RATE, isZero, timeOutside, rateOutside}

@@ -1,11 +1,10 @@
-use mathlib.Core.Path.{_≡_, sym, ap, _∙_, subst}
-use mathlib.Core.Bool.{not}
+use mathlib.Core.Path.{_≡_, sym, _∙_, subst}
 use lib.Signed.{ltZ}
 use mir.Syntax.{w64}
 use mir.Val.{toZ, ofZ}
 use mir.ValLaws.{toZ-ofZ}
 use Rattle.clock.specs.Line.{valueAt}
-use Rattle.clock.specs.Clock.{InRange, Drawable}
+use Rattle.clock.specs.Clock.{InRange}
 use Rattle.records.specs.Taken.{fastest, withinReach}
 use Rattle.clock.proofs.Ranges.{not-lt}
 use Rattle.clock.proofs.Placed.{under-law}

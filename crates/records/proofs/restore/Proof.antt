@@ -1,6 +1,6 @@
-use mathlib.Core.Path.{_≡_, sym, _∙_, subst}
+use mathlib.Core.Path.{sym, _∙_, subst}
 use lib.Dec.{T}
-use Rattle.records.specs.Taken.{isClock, restoring}
+use Rattle.records.specs.Taken.{restoring}
 use Rattle.records.proofs.Records.{taken-valid}
 use borrow.Author.Needs.{needs}
 use Rattle.records.proofs.restore.Statement.{statement}
