@@ -1,8 +1,9 @@
 /* Cementoad: a clock that cannot lie, and its update slips.
  *
  * Link with target/staticlib/libcementoad.a, which tools/archive makes for x86-64 Linux. Times and values are whole
- * nanoseconds. Any number may be handed in, in any field; each function ends, and answers a value or one numbered refusal.
- * A refusal of 0 is none. Nothing is allocated, nothing is kept between calls, and no function needs a lock. */
+ * nanoseconds. Any number may be handed in, in any field; each function ends, and answers a value or one numbered
+ * refusal. A refusal of 0 is none. Nothing is allocated, nothing is kept between calls, and no function needs a
+ * lock. */
 #ifndef CEMENTOAD_H
 #define CEMENTOAD_H
 
@@ -21,6 +22,17 @@
 extern "C" {
 #endif
 
+/* ---- the version */
+
+/* The version of the boundary that this header declares. It goes up with every change of a struct, a function or a
+ * number that callers were built with. */
+#define CEMENTOAD_ABI 1
+
+/* The archive's version. Where it differs from CEMENTOAD_ABI, this header is too old or too new for the archive, and
+ * nothing else of it may be called. */
+CEMENTOAD_ANSWERS
+uint32_t cementoad_abi(void);
+
 /* ---- numbers */
 
 /* The end of the range of times and values, 2^61 - 1. */
@@ -32,7 +44,8 @@ extern "C" {
 /* The bytes of the longest slip. */
 #define CEMENTOAD_LONGEST_SLIP 27
 
-/* The bits of a creation word: readings never fall while the times don't; the line is never broken; the clock starts at creation. */
+/* The bits of a creation word: readings never fall while the times don't; the line is never broken; the clock starts
+ * at creation. */
 #define CEMENTOAD_MONOTONIC UINT8_C(128)
 #define CEMENTOAD_CONTINUOUS UINT8_C(64)
 #define CEMENTOAD_AUTO_START UINT8_C(32)
@@ -91,7 +104,8 @@ enum cementoad_refusal {
     CEMENTOAD_BYTES_LEFT_OVER = 20,
     /* The buffer is shorter than the slip. */
     CEMENTOAD_BUFFER_SHORT = 21,
-    /* Not of the paper, and checked before all others: the record is none that creation and accepted updates can give. */
+    /* Not of the paper, and checked before all others: what is handed in for a clock fails the test that is told at
+     * struct cementoad_clock. */
     CEMENTOAD_NOT_A_CLOCK = 255
 };
 
@@ -103,7 +117,8 @@ static inline bool cementoad_is_invalid_args(uint8_t refusal)
 
 /* ---- structs. Bytes between the fields may hold anything: compare and store structs field by field. */
 
-/* A line through the point (reference, synthetic) that gains 1,000,000 + rate millionths of a nanosecond in each nanosecond. */
+/* A line through the point (reference, synthetic) that gains 1,000,000 + rate millionths of a nanosecond in each
+ * nanosecond. */
 struct cementoad_line {
     /* The reference time at which the line begins, in nanoseconds. */
     int64_t reference;
@@ -113,18 +128,23 @@ struct cementoad_line {
     int32_t rate;
 };
 
-/* A clock as a record of numbers. Take it from cementoad_create and cementoad_update, and hand it on as it is. A record filled in by
- * hand is no clock, and nothing is promised of its readings; what creation and accepted updates can't give, zeros among it, is refused
- * with CEMENTOAD_NOT_A_CLOCK. Of running records one kind is known that is not found out (docs/DECISIONS.md). */
-struct cementoad_record {
-    /* No reading is below it. */
-    int64_t backstop;
+/* A clock. Take it from cementoad_create and cementoad_update, and hand it on as it is. Each call on a clock first
+ * tests what it is handed, and is refused with CEMENTOAD_NOT_A_CLOCK unless creation would take the word and the
+ * backstop at the latest time, and
+ *   - started is 1, the line's reference and synthetic lie in 0..END, its rate lies in -1000..1000, and its value at
+ *     the latest time is not below the backstop; or
+ *   - started is 0, auto start is not set, and line, error and generation are as creation leaves them.
+ * So zeros are no clock. Of a made-up clock that passes nothing is promised but this: each call ends and answers by
+ * the same rules, what an update hands back passes again, and no reading is below the backstop or outside 0..END. */
+struct cementoad_clock {
     /* The line that the clock follows, zeros before the start. */
     struct cementoad_line line;
-    /* The error bound in nanoseconds, CEMENTOAD_UNKNOWN_ERROR where it is unknown. */
-    uint64_t error;
+    /* No reading is below it. */
+    int64_t backstop;
     /* The time of the latest accepted update, or of creation before any. */
     int64_t latest;
+    /* The error bound in nanoseconds, CEMENTOAD_UNKNOWN_ERROR where it is unknown. */
+    uint64_t error;
     /* 1 at creation, one more each time the line is replaced, from 2^32 - 1 to 0. */
     uint32_t generation;
     /* The creation word. */
@@ -149,13 +169,13 @@ struct cementoad_request {
 
 /* A new clock. A refused creation gives zeros, which are not a clock. */
 struct cementoad_created {
-    struct cementoad_record clock;
+    struct cementoad_clock clock;
     uint8_t refusal;
 };
 
-/* The clock after an update, or the old record unaltered with a refusal. */
+/* The clock after an update, or with a refusal what was handed in, unaltered, whether it is a clock or not. */
 struct cementoad_updated {
-    struct cementoad_record clock;
+    struct cementoad_clock clock;
     uint8_t refusal;
 };
 
@@ -163,12 +183,6 @@ struct cementoad_updated {
 struct cementoad_reading {
     uint8_t refusal;
     int64_t value;
-};
-
-/* Whether a clock is started, false where the record is not a clock. */
-struct cementoad_started {
-    uint8_t refusal;
-    bool started;
 };
 
 /* What a clock tells of itself at a time. */
@@ -217,28 +231,29 @@ struct cementoad_created cementoad_create(uint8_t word, int64_t backstop, int64_
 
 /* The clock's value at now, the backstop before the start; or refusal 1, 2, 12 or 255. */
 CEMENTOAD_ANSWERS
-struct cementoad_reading cementoad_read(struct cementoad_record clock, int64_t now);
+struct cementoad_reading cementoad_read(struct cementoad_clock clock, int64_t now);
 
 /* The clock as the request leaves it, or unaltered with refusal 1 to 14 or 255. */
 CEMENTOAD_ANSWERS
-struct cementoad_updated cementoad_update(struct cementoad_record clock, struct cementoad_request request, int64_t now);
+struct cementoad_updated cementoad_update(struct cementoad_clock clock, struct cementoad_request request, int64_t now);
 
 /* What the clock tells of itself at now, or refusal 1, 2 or 255. */
 CEMENTOAD_ANSWERS
-struct cementoad_detailed cementoad_get_details(struct cementoad_record clock, int64_t now);
+struct cementoad_detailed cementoad_get_details(struct cementoad_clock clock, int64_t now);
 
-/* Whether the clock is started, or refusal 255. */
+/* Whether it is a clock and started. */
 CEMENTOAD_ANSWERS
-struct cementoad_started cementoad_is_started(struct cementoad_record clock);
+bool cementoad_is_started(struct cementoad_clock clock);
 
-/* ---- slips. A pointer is to as many bytes as the number behind it says, and is not NULL, also where the number is 0. */
+/* ---- slips. A pointer is to as many bytes as the number behind it says, and is never NULL, not even for 0 bytes. */
 
 /* The request of a slip that is all of the bytes, or refusal 3, 6, 18, 19 or 20. */
 CEMENTOAD_ANSWERS
 struct cementoad_received cementoad_read_slip(const uint8_t *bytes, size_t length);
 
-/* Writes the request as a slip to the front of the buffer, or answers refusal 3, 5, 6 or 21. No other byte is touched, and none where
- * it is refused. The old bytes have no effect, but they are read: fill a new buffer before lending it. */
+/* Writes the request as a slip to the front of the buffer, or answers refusal 3, 5, 6 or 21. No other byte is touched,
+ * and none where it is refused. The old bytes have no effect, but they are read: fill a new buffer before lending
+ * it. */
 CEMENTOAD_ANSWERS
 struct cementoad_written cementoad_write_slip(struct cementoad_request request, uint8_t *buffer, size_t size);
 

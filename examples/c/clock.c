@@ -1,4 +1,4 @@
-/* A clock is created, set, trimmed and read, with its requests passed on as slips; then a refusal is met. */
+/* A clock is created, set, trimmed and read, with its requests passed on as slips; then two refusals are met. */
 #include <inttypes.h>
 #include <stdio.h>
 #include <stdlib.h>
@@ -15,28 +15,26 @@ static void taken(const char *step, uint8_t refusal)
 }
 
 /* The clock as the request leaves it. */
-static struct cementoad_record update(struct cementoad_record clock, struct cementoad_request request, int64_t now)
+static struct cementoad_clock update(struct cementoad_clock clock, struct cementoad_request request, int64_t now)
 {
     struct cementoad_updated updated = cementoad_update(clock, request, now);
     taken("update", updated.refusal);
     return updated.clock;
 }
 
-static void print_started(struct cementoad_record clock)
+static void print_started(struct cementoad_clock clock)
 {
-    struct cementoad_started started = cementoad_is_started(clock);
-    taken("started", started.refusal);
-    printf(started.started ? "it is started\n" : "it is not started\n");
+    printf(cementoad_is_started(clock) ? "it is started\n" : "it is not started\n");
 }
 
-static void print_reading(struct cementoad_record clock, int64_t now)
+static void print_reading(struct cementoad_clock clock, int64_t now)
 {
     struct cementoad_reading reading = cementoad_read(clock, now);
     taken("read", reading.refusal);
     printf("at %" PRId64 " it reads %" PRId64 "\n", now, reading.value);
 }
 
-static void print_details(struct cementoad_record clock, int64_t now)
+static void print_details(struct cementoad_clock clock, int64_t now)
 {
     struct cementoad_detailed detailed = cementoad_get_details(clock, now);
     struct cementoad_line line = detailed.details.line;
@@ -62,10 +60,16 @@ static struct cementoad_request by_slip(struct cementoad_request request)
 
 int main(void)
 {
+    uint32_t abi = cementoad_abi();
+    if (abi != CEMENTOAD_ABI) {
+        fprintf(stderr, "the header is of version %d, but the archive of version %" PRIu32 "\n", CEMENTOAD_ABI, abi);
+        return EXIT_FAILURE;
+    }
+
     printf("a plain clock is created at 0, with backstop 0\n");
     struct cementoad_created created = cementoad_create(0, 0, 0);
     taken("create", created.refusal);
-    struct cementoad_record clock = created.clock;
+    struct cementoad_clock clock = created.clock;
     print_started(clock);
     print_reading(clock, 0);
 
@@ -87,5 +91,11 @@ int main(void)
     struct cementoad_updated refused = cementoad_update(clock, trim, 2000100);
     printf("a trim by 1001 ppm at 2000100 gets refusal %d\n", refused.refusal);
     print_reading(refused.clock, 2000100);
-    return refused.refusal == CEMENTOAD_RATE_OUTSIDE ? EXIT_SUCCESS : EXIT_FAILURE;
+
+    struct cementoad_clock zeros = {0};
+    struct cementoad_reading reading = cementoad_read(zeros, 0);
+    printf("zeros are no clock: a reading of them gets refusal %d\n", reading.refusal);
+
+    bool as_expected = refused.refusal == CEMENTOAD_RATE_OUTSIDE && reading.refusal == CEMENTOAD_NOT_A_CLOCK;
+    return as_expected ? EXIT_SUCCESS : EXIT_FAILURE;
 }

@@ -21,14 +21,14 @@ static void structs(void)
     FIELD(line, reference);
     FIELD(line, synthetic);
     FIELD(line, rate);
-    STRUCT(record);
-    FIELD(record, backstop);
-    FIELD(record, line);
-    FIELD(record, error);
-    FIELD(record, latest);
-    FIELD(record, generation);
-    FIELD(record, word);
-    FIELD(record, started);
+    STRUCT(clock);
+    FIELD(clock, line);
+    FIELD(clock, backstop);
+    FIELD(clock, latest);
+    FIELD(clock, error);
+    FIELD(clock, generation);
+    FIELD(clock, word);
+    FIELD(clock, started);
     STRUCT(request);
     FIELD(request, word);
     FIELD(request, synthetic);
@@ -44,9 +44,6 @@ static void structs(void)
     STRUCT(reading);
     FIELD(reading, refusal);
     FIELD(reading, value);
-    STRUCT(started);
-    FIELD(started, refusal);
-    FIELD(started, started);
     STRUCT(details);
     FIELD(details, started);
     FIELD(details, line);
@@ -69,6 +66,7 @@ static void structs(void)
 
 static void constants(void)
 {
+    UNSIGNED(ABI);
     SIGNED(END);
     SIGNED(MAX_RATE);
     UNSIGNED(UNKNOWN_ERROR);

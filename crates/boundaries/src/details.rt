@@ -2,7 +2,6 @@
 use crate::tries::AUTO_START;
 use crate::tries::PLAIN;
 use crate::tries::at_end;
-ghost use Rattle.trials.specs.Life.{Alive};
 use clock::Clock;
 use clock::Created;
 use clock::Request;
@@ -107,10 +106,7 @@ fn unflagged() {
 }
 
 // An update, and the details after it.
-fn then(life: Created, request: Request, now: i64) -> Created
-    requires { ⌜ Alive life ⌝ }
-    ensures { λ r. ⌜ Alive r ⌝ }
-{
+fn then(life: Created, request: Request, now: i64) -> Created {
     lines::then();
     let c = update(life, request, now);
     details(c, now);

@@ -1,5 +1,4 @@
 // One line: a clock of some kind, what starts it, and the call that is tried.
-ghost use Rattle.trials.specs.Life.{Alive};
 use clock::Created;
 use clock::Request;
 use trials::requests;
@@ -68,9 +67,7 @@ pub fn on_started(word: u8, backstop: i64, start: Request, at: i64, request: Req
 }
 
 // Case 10's clock, which reaches the end of the range at once.
-pub fn at_end() -> Created
-    ensures { λ r. ⌜ Alive r ⌝ }
-{
+pub fn at_end() -> Created {
     let c = trials::create(PLAIN, 0, 0);
     trials::update(c, requests::set(clock::Clock::END), 0)
 }

@@ -7,6 +7,7 @@ use Rattle.clock.specs.Clock.{oldLine}
 use Rattle.clock.specs.Creation.{creationTable, creationRefusal, created, creating}
 use Rattle.clock.specs.Reading.{clockValue, readingTable, readingRefusal, reading}
 use Rattle.clock.specs.Update.{wordWrong, valuesOutside, rateTooWide, place, effect, newLine, updateTable, updateRefusal, nextGeneration, updated, updating}
+use Rattle.clock.specs.Taken.{isIdentity, drawable, showsBackstop, mayRun, asCreated, isClock, guarded}
 use Rattle.clock.specs.Calls.{refusalOf, accepted, after}
 use Rattle.fields.specs.Bits.{number, digits, row, bytesOf}
 use Rattle.fields.specs.Field.{field}
@@ -19,5 +20,5 @@ use Rattle.cases.specs.Case.{all}
 use Rattle.cases.specs.Table.{table}
 
 pub cases-settled : all table ≡ true
-unfolding outside timeOutside rateOutside valueAt oldLine creationTable creationRefusal created creating clockValue readingTable readingRefusal reading wordWrong valuesOutside rateTooWide place effect newLine updateTable updateRefusal nextGeneration updated updating refusalOf accepted after idealAt creation rateBefore redrawn noted number digits row bytesOf field packed fields widths slipLength padding layout headed valuesIn requestIn frontTable slipTable readingSlip valuesOf slipOf writingTable writing
+unfolding isIdentity drawable showsBackstop mayRun asCreated isClock guarded outside timeOutside rateOutside valueAt oldLine creationTable creationRefusal created creating clockValue readingTable readingRefusal reading wordWrong valuesOutside rateTooWide place effect newLine updateTable updateRefusal nextGeneration updated updating refusalOf accepted after idealAt creation rateBefore redrawn noted number digits row bytesOf field packed fields widths slipLength padding layout headed valuesIn requestIn frontTable slipTable readingSlip valuesOf slipOf writingTable writing
 cases-settled = refl

@@ -1,121 +1,82 @@
 // The clock's and the slips' operations for callers in C and Rust, over numbers, structs of numbers and lent bytes. include/cementoad.h
-// declares them. Anything may be handed in: a record that crate records does not take for a clock's is refused by a number of its own.
+// declares them. Anything may be handed in: each operation tests for itself whether it is handed a clock.
 ghost use mathlib.Core.Path.{_≡_};
 ghost use Rattle.slip.specs.Layout.{asking, slipLength};
 ghost use Rattle.slip.specs.Reading.{readingSlip};
 ghost use Rattle.slip.specs.Writing.{writing, outcome};
-ghost use Rattle.clock.specs.Records.{zeroRecord};
-ghost use Rattle.cementoad.specs.Boundary.{creatingRecord, readingRecord, updatingRecord, detailingRecord, startingRecord};
+ghost use Rattle.clock.specs.Reading.{reading};
+ghost use Rattle.clock.specs.Update.{updating};
+ghost use Rattle.clock.specs.Details.{isStarted, detailing};
+ghost use Rattle.cementoad.specs.Boundary.{abi, creatingFor};
 use clock::Clock;
 use clock::Detailed;
-use clock::Line;
 use clock::Reading;
-use clock::Record;
 use clock::Request;
-use records::Restored;
+use clock::Updated;
 use slip::Received;
 use slip::Written;
 
-// The record is none that creation and accepted updates can give. The paper's numbers end before this one.
-pub const NOT_A_CLOCK: u8 = 255;
+// The version of the boundary: one more with each change of a struct, a function or a number that callers were built
+// with.
+pub const ABI: u32 = 1;
 
 // A new clock. A refused creation gives zeros, which are no clock.
 #[repr(C)]
 pub struct Created {
-    pub clock: Record,
+    pub clock: Clock,
     pub refusal: u8,
 }
 
-// The clock after an update, or the old record unaltered with a refusal.
-#[repr(C)]
-pub struct Updated {
-    pub clock: Record,
-    pub refusal: u8,
-}
-
-// Whether a clock is started, false where it is refused.
-#[repr(C)]
-pub struct Started {
-    pub refusal: u8,
-    pub started: bool,
+// The archive's version, for a caller to compare with the one that it was built with.
+#[no_mangle]
+pub extern "C" fn cementoad_abi() -> u32
+    ensures { λ r. ⌜ r ≡ abi ⌝ }
+{
+    ABI
 }
 
 #[no_mangle]
 pub extern "C" fn cementoad_create(word: u8, backstop: i64, now: i64) -> Created
-    ensures { λ r. ⌜ r ≡ creatingRecord word backstop now ⌝ }
+    ensures { λ r. ⌜ r ≡ creatingFor word backstop now ⌝ }
 {
     match Clock::create(word, backstop, now) {
         clock::Created::Made(made) => Created {
-            clock: made.record(),
+            clock: made,
             refusal: 0,
         },
         clock::Created::Refused(refusal) => Created {
-            clock: no_record(),
+            clock: Clock::zeros(),
             refusal,
         },
     }
 }
 
 #[no_mangle]
-pub extern "C" fn cementoad_read(clock: Record, now: i64) -> Reading
-    ensures { λ r. ⌜ r ≡ readingRecord clock now ⌝ }
+pub extern "C" fn cementoad_read(clock: Clock, now: i64) -> Reading
+    ensures { λ r. ⌜ r ≡ reading clock now ⌝ }
 {
-    match records::restore(clock) {
-        Restored::Genuine(genuine) => genuine.read(now),
-        Restored::MadeUp => Reading {
-            refusal: NOT_A_CLOCK,
-            value: 0,
-        },
-    }
+    clock.read(now)
 }
 
 #[no_mangle]
-pub extern "C" fn cementoad_update(clock: Record, request: Request, now: i64) -> Updated
-    ensures { λ r. ⌜ r ≡ updatingRecord clock request now ⌝ }
+pub extern "C" fn cementoad_update(clock: Clock, request: Request, now: i64) -> Updated
+    ensures { λ r. ⌜ r ≡ updating clock request now ⌝ }
 {
-    match records::restore(clock) {
-        Restored::Genuine(genuine) => {
-            let updated = genuine.update(request, now);
-            let after = updated.clock;
-            Updated {
-                clock: after.record(),
-                refusal: updated.refusal,
-            }
-        }
-        Restored::MadeUp => Updated {
-            clock,
-            refusal: NOT_A_CLOCK,
-        },
-    }
+    clock.update(request, now)
 }
 
 #[no_mangle]
-pub extern "C" fn cementoad_get_details(clock: Record, now: i64) -> Detailed
-    ensures { λ r. ⌜ r ≡ detailingRecord clock now ⌝ }
+pub extern "C" fn cementoad_get_details(clock: Clock, now: i64) -> Detailed
+    ensures { λ r. ⌜ r ≡ detailing clock now ⌝ }
 {
-    match records::restore(clock) {
-        Restored::Genuine(genuine) => genuine.details(now),
-        Restored::MadeUp => Detailed {
-            refusal: NOT_A_CLOCK,
-            details: clock::no_details(),
-        },
-    }
+    clock.details(now)
 }
 
 #[no_mangle]
-pub extern "C" fn cementoad_is_started(clock: Record) -> Started
-    ensures { λ r. ⌜ r ≡ startingRecord clock ⌝ }
+pub extern "C" fn cementoad_is_started(clock: Clock) -> bool
+    ensures { λ r. ⌜ r ≡ isStarted clock ⌝ }
 {
-    match records::restore(clock) {
-        Restored::Genuine(genuine) => Started {
-            refusal: 0,
-            started: genuine.started(),
-        },
-        Restored::MadeUp => Started {
-            refusal: NOT_A_CLOCK,
-            started: false,
-        },
-    }
+    clock.started()
 }
 
 #[no_mangle]
@@ -137,23 +98,4 @@ pub extern "C" fn cementoad_slip_length(word: u64) -> usize
     ensures { λ r. ⌜ r ≡ slipLength (asking word) ⌝ }
 {
     slip::slip_length(word)
-}
-
-fn no_record() -> Record
-    ensures { λ r. ⌜ r ≡ zeroRecord ⌝ }
-{
-    let line = Line {
-        reference: 0,
-        synthetic: 0,
-        rate: 0,
-    };
-    Record {
-        backstop: 0,
-        line,
-        error: 0,
-        latest: 0,
-        generation: 0,
-        word: 0,
-        started: 0,
-    }
 }

@@ -3,25 +3,27 @@ use mathlib.Core.Bool.{Bool, true, false, not, cond, _&&_, _||_}
 use mathlib.Core.List.{List, [], _∷_, _++_}
 use mathlib.Core.Path.{_≡_, refl, sym, ap, _∙_, subst}
 use Prim.Native.Nat.{ℕ}
-use lib.Dec.{T, eqb}
-use lib.IntN.{ℤ, pos, negsuc}
-use lib.Signed.{ltZ, _≤ℤ_}
+use lib.Dec.{T}
+use lib.IntN.{ℤ}
+use lib.Signed.{ltZ}
 use borrow.Author.Tests.{ne-eqb}
 use Rattle.clock.specs.Numbers.{END, timeOutside}
 use Rattle.clock.specs.Refusals.{Row, _when_, first}
 use Rattle.clock.specs.Line.{line, valueAt}
-use Rattle.clock.specs.Clock.{monotonic, oldLine, InRange, Permitted, Drawable, Valid}
+use Rattle.clock.specs.Clock.{monotonic, isRunning, oldLine, InRange, Permitted, Drawable, Valid}
 use Rattle.clock.specs.Update.{hasSynthetic, hasRate, replaces, valuesOutside, rateTooWide, place, effect, newLine, updateTable, updateRefusal, updated, updating}
-use Rattle.clock.specs.Parts.{rowsBefore, placed, isWithin, isAbove, isUnder, isLess, numberOf, syntheticOf, drawnLine, lineTable}
+use Rattle.clock.specs.Parts.{rowsBefore, placed, isWithin, isLess, numberOf, syntheticOf, drawnLine, lineTable}
 use Rattle.clock.specs.declared.Line.{Line}
 use Rattle.clock.specs.declared.Clock.{Clock}
 use Rattle.clock.specs.declared.Request.{Request}
 use Rattle.clock.specs.declared.value.Value.{Value}
 use Rattle.clock.specs.declared.value.Value.the-variants.{Within}
 use Rattle.clock.proofs.Tests.{neither-left}
-use Rattle.clock.proofs.Tables.{test, passed, rowsFrom, first-passed, first-refused}
+use Rattle.clock.proofs.Tables.{passed, rowsFrom, first-passed, first-refused}
 use Rattle.clock.proofs.Ranges.{in-range}
 use Rattle.clock.proofs.Placed.{above-law, outside-law, under-law, less-law, placed-in, number-in-range}
+use Rattle.clock.specs.Taken.{isClock, NOT_A_CLOCK}
+use Rattle.clock.proofs.Taken.{guarded-first, guarded-none, taken-valid}
 use Rattle.clock.proofs.Requests.{synthetic-in-range, place-in-range, rate-permitted, old-drawable}
 
 -- ---- what rules 1 to 11 leave known
@@ -46,7 +48,7 @@ abbrev judged : Clock → Bool → Line → ℤ → List Row
 judged c replaced new now =
     (12 when (replaced && (timeOutside (new .synthetic) || ltZ END (valueAt new now)))
     ∷ 13 when (replaced && ltZ (valueAt new now) (c .backstop))
-    ∷ 14 when (replaced && monotonic (c .word) && c .started && ltZ (valueAt new now) (valueAt (oldLine c) now))
+    ∷ 14 when (replaced && monotonic (c .word) && isRunning c && ltZ (valueAt new now) (valueAt (oldLine c) now))
     ∷ [])
 
 -- the old value is asked only of a new one that is in the range and not below the backstop
@@ -69,7 +71,7 @@ module _ (c : Clock) (v : Valid c) (P a now : ℤ) where
           let w = valueAt (oldLine c) now in
           rw (placed-in z i)
           (simp (e, above-law x, under-law x (c .backstop) (v .backstop))
-          (asked-last (ltZ END x) (ltZ x (c .backstop)) (monotonic (c .word) && c .started) (isLess (placed x) (placed w)) (ltZ x w)
+          (asked-last (ltZ END x) (ltZ x (c .backstop)) (monotonic (c .word) && isRunning c) (isLess (placed x) (placed w)) (ltZ x w)
           (less-law x w (c .backstop) (v .backstop))))
 
   -- a number of the range is seen as itself
@@ -130,19 +132,26 @@ module _ (c : Clock) (u : Request) (now : ℤ) where
   abbrev pub refusalNow : ℕ
   refusalNow = first (lineTable c (replaces u) startNow lineNow now)
 
-  refusal-split : updateRefusal c u now ≡ first (rowsBefore 12 (updateTable c u now) ++ rowsFrom 12 (updateTable c u now))
-  unfolding updateTable updateRefusal
-  refusal-split = refl
+  pub update-none : isClock c ≡ false → record { clock = c; refusal = NOT_A_CLOCK } ≡ updating c u now
+  unfolding updating updateRefusal
+  update-none e = simp (guarded-none c (updateTable c u now) e)
 
-  pub update-refused : (n : ℕ) → n ≡ first (rowsBefore 12 (updateTable c u now)) → (n ≡ 0 → ⊥) → record { clock = c; refusal = n } ≡ updating c u now
+  refusal-split : T (isClock c) → updateRefusal c u now ≡ first (rowsBefore 12 (updateTable c u now) ++ rowsFrom 12 (updateTable c u now))
+  unfolding updateTable updateRefusal
+  refusal-split t = guarded-first c (updateTable c u now) t
+
+  pub update-refused : T (isClock c) → (n : ℕ) → n ≡ first (rowsBefore 12 (updateTable c u now)) → (n ≡ 0 → ⊥) → record { clock = c; refusal = n } ≡ updating c u now
   unfolding updating
-  update-refused n e h =
+  update-refused t n e h =
       let k : updateRefusal c u now ≡ n =
-      refusal-split ∙ first-refused (rowsBefore 12 (updateTable c u now)) (rowsFrom 12 (updateTable c u now)) (λ z. h (e ∙ z)) ∙ sym e in
+      refusal-split t ∙ first-refused (rowsBefore 12 (updateTable c u now)) (rowsFrom 12 (updateTable c u now)) (λ z. h (e ∙ z)) ∙ sym e in
       simp (k, ne-eqb n 0 h)
 
 -- where rules 1 to 11 let it pass
-module _ (c : Clock) (u : Request) (now : ℤ) (v : Valid c) (e : first (rowsBefore 12 (updateTable c u now)) ≡ 0) where
+module _ (c : Clock) (u : Request) (now : ℤ) (t : T (isClock c)) (e : first (rowsBefore 12 (updateTable c u now)) ≡ 0) where
+  v : Valid c
+  v = taken-valid c t
+
   pub place-passed : InRange (place u now)
   place-passed = place-in-range u (values-passed c u now e) now (now-passed c u now e)
 
@@ -156,7 +165,7 @@ module _ (c : Clock) (u : Request) (now : ℤ) (v : Valid c) (e : first (rowsBef
   unfolding syntheticOf drawnLine newLine updateTable
   line-judged =
       judges-effect c v (oldLine c) (place u now) (u .synthetic) (u .rate) now (hasSynthetic u) (hasRate u) (synthetic-in-range u (values-passed c u now e))
-      ∙ sym (refusal-split c u now ∙ first-passed (rowsBefore 12 (updateTable c u now)) (rowsFrom 12 (updateTable c u now)) tt e)
+      ∙ sym (refusal-split c u now t ∙ first-passed (rowsBefore 12 (updateTable c u now)) (rowsFrom 12 (updateTable c u now)) tt e)
 
   pub line-drawn : refusalNow c u now ≡ 0 → lineNow c u now ≡ newLine c u now
   unfolding syntheticOf drawnLine newLine

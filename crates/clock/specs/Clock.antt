@@ -1,10 +1,9 @@
--- The clock's record: what its creation word says, and what holds of every clock.
+-- The clock: what its creation word and its started byte say, its old line, and what the operations rest on.
 use mathlib.Core.Bool.{Bool, cond}
-use mathlib.Core.Path.{_≡_}
 use Prim.Native.Nat.{ℕ}
 use lib.IntN.{ℤ, pos, negℤ}
 use lib.Signed.{_≤ℤ_}
-use lib.Dec.{T}
+use lib.Dec.{T, eqb}
 use Rattle.clock.specs.Numbers.{END, MAX_RATE, bit}
 use Rattle.clock.specs.Line.{identity, valueAt}
 use Rattle.clock.specs.declared.Line.{Line}
@@ -20,9 +19,17 @@ continuous word = bit 6 word
 abbrev pub autoStart : ℕ → Bool
 autoStart word = bit 5 word
 
+-- the started byte: 1, or 0 before the start
+abbrev pub byteOf : Bool → ℕ
+byteOf b = cond b 1 0
+
+-- the started byte is 1; of a clock, that it is started
+abbrev pub isRunning : Clock → Bool
+isRunning c = eqb (c .started) 1
+
 -- T, the old line of an update; before the start the identity line, since 'old a is 0 before the start' (01, the effect table)
 unfoldable pub oldLine : Clock → Line
-oldLine c = cond (c .started) (c .line) identity
+oldLine c = cond (isRunning c) (c .line) identity
 
 -- in 0..END
 pub record InRange (x : ℤ) : Type 0 where
@@ -40,9 +47,9 @@ pub record Drawable (l : Line) : Type 0 where
   pub synthetic : InRange (l .synthetic)
   pub rate : Permitted (l .rate)
 
--- what every clock keeps to that creation gave and accepted updates carried on; some records that they can't give keep to it too
+-- what the operations rest on; it holds of everything that is taken for a clock (`ClocksValid` in demands/specs)
 pub record Valid (c : Clock) : Type 0 where
   pub line : Drawable (c .line)
   pub backstop : InRange (c .backstop)
   pub latest : InRange (c .latest)
-  pub above : T (c .started) → c .backstop ≤ℤ valueAt (c .line) (c .latest)
+  pub above : T (isRunning c) → c .backstop ≤ℤ valueAt (c .line) (c .latest)

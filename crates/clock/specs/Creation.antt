@@ -1,15 +1,15 @@
 -- Creation: its refusals, the clock it gives, and its whole answer.
-use mathlib.Core.Bool.{Bool, true, false, not, cond, _&&_}
+use mathlib.Core.Bool.{Bool, not, cond, _&&_}
 use mathlib.Core.List.{List, [], _∷_}
 use mathlib.Core.Option.{Option, none, some}
 use Prim.Native.Nat.{ℕ, _-_, _/_, _%_, _^_}
-use lib.IntN.{ℤ, pos}
+use lib.IntN.{ℤ}
 use lib.Signed.{ltZ}
 use lib.Dec.{eqb}
 use Rattle.clock.specs.Numbers.{timeOutside}
 use Rattle.clock.specs.Refusals.{Row, _when_, first}
 use Rattle.clock.specs.Line.{identity}
-use Rattle.clock.specs.Clock.{monotonic, continuous, autoStart}
+use Rattle.clock.specs.Clock.{monotonic, continuous, autoStart, byteOf}
 use Rattle.clock.specs.declared.Clock.{Clock}
 use Rattle.clock.specs.declared.Created.{Created}
 use Rattle.clock.specs.declared.Created.the-variants.{Made, Refused}
@@ -38,13 +38,13 @@ UNKNOWN_ERROR = 2 ^ 64 - 1
 -- unless auto start is set the clock isn't started; auto start gives the line (0, 0, 0) at once; generation starts at 1 (01, 'Creation')
 unfoldable pub created : ℕ → ℤ → ℤ → Clock
 created word backstop now = record {
-  word = word;
-  backstop = backstop;
-  started = autoStart word;
   line = identity;
+  backstop = backstop;
+  latest = now;
   error = UNKNOWN_ERROR;
   generation = 1;
-  latest = now;
+  word = word;
+  started = byteOf (autoStart word);
 }
 
 -- the answer: a refusal's number, 0 for none, and the clock; a refused creation gives no clock

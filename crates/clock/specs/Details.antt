@@ -1,5 +1,5 @@
 -- The details record at now, and whether the clock is started.
-use mathlib.Core.Bool.{Bool, false, cond}
+use mathlib.Core.Bool.{Bool, false, cond, _&&_}
 use mathlib.Core.List.{List, [], _∷_}
 use Prim.Native.Nat.{ℕ}
 use lib.IntN.{ℤ, pos}
@@ -7,14 +7,16 @@ use lib.Signed.{ltZ}
 use lib.Dec.{eqb}
 use Rattle.clock.specs.Numbers.{timeOutside}
 use Rattle.clock.specs.Refusals.{Row, _when_, first}
-use Rattle.clock.specs.Line.{line}
-use Rattle.clock.specs.declared.Line.{Line}
+use Rattle.clock.specs.Line.{zeroLine}
+use Rattle.clock.specs.Clock.{isRunning}
+use Rattle.clock.specs.Taken.{isClock, guarded}
 use Rattle.clock.specs.declared.Clock.{Clock}
 use Rattle.clock.specs.declared.Details.{Details}
 use Rattle.clock.specs.declared.Detailed.{Detailed}
 
-abbrev pub isStarted : Clock → Bool
-isStarted c = c .started
+-- a clock, and started
+unfoldable pub isStarted : Clock → Bool
+isStarted c = isClock c && isRunning c
 
 -- 'Only refusals 1 and 2 apply' (01, 'Details')
 unfoldable pub detailsTable : Clock → ℤ → List Row
@@ -24,16 +26,13 @@ detailsTable c now =
     ∷ [])
 
 unfoldable pub detailsRefusal : Clock → ℤ → ℕ
-detailsRefusal c now = first (detailsTable c now)
-
-abbrev pub zeroLine : Line
-zeroLine = line (pos 0) (pos 0) (pos 0)
+detailsRefusal c now = first (guarded c (detailsTable c now))
 
 -- in the paper's order; the line is given as zeros before the start
 unfoldable pub detailsOf : Clock → ℤ → Details
 detailsOf c now = record {
-  started = c .started;
-  line = cond (c .started) (c .line) zeroLine;
+  started = isRunning c;
+  line = cond (isRunning c) (c .line) zeroLine;
   error = c .error;
   generation = c .generation;
   latest = c .latest;

@@ -1,14 +1,17 @@
--- What the inner parts of the code compute. The rules above do not rest on this file; proofs/ shows that the parts give the rules.
+-- What the inner parts of the code compute. The rules in the other files do not rest on this one; proofs/ shows that
+-- the parts give the rules.
 use mathlib.Core.Bool.{Bool, true, false, not, cond, _&&_, _||_}
 use mathlib.Core.List.{List, [], _∷_}
 use Prim.Native.Nat.{ℕ, _≤_}
 use lib.IntN.{ℤ, pos, negsuc, _+ℤ_, _-ℤ_, _*ℤ_}
-use lib.Signed.{ltZ, _≤ℤ_}
+use lib.Signed.{ltZ, leZ, _≤ℤ_}
 use lib.Dec.{eqb}
 use Rattle.clock.specs.Numbers.{END, million, floorDiv, timeOutside}
-use Rattle.clock.specs.Refusals.{Row, _when_, first}
+use Rattle.clock.specs.Refusals.{Row, _when_}
 use Rattle.clock.specs.Line.{line, valueAt}
-use Rattle.clock.specs.Clock.{monotonic, oldLine}
+use Rattle.clock.specs.Clock.{monotonic, isRunning, oldLine}
+use Rattle.clock.specs.Creation.{creationRefusal}
+use Rattle.clock.specs.Taken.{drawable}
 use Rattle.clock.specs.Update.{hasSynthetic, hasRate, hasError, replaces}
 use Rattle.clock.specs.declared.Line.{Line}
 use Rattle.clock.specs.declared.Clock.{Clock}
@@ -116,5 +119,17 @@ lineTable c replaced start new now =
     let oldValue = placed (valueAt (oldLine c) now) in
     (12 when (replaced && (not (isWithin start) || isAbove newValue))
     ∷ 13 when (replaced && isUnder newValue (c .backstop))
-    ∷ 14 when (replaced && monotonic (c .word) && c .started && isLess newValue oldValue)
+    ∷ 14 when (replaced && monotonic (c .word) && isRunning c && isLess newValue oldValue)
     ∷ [])
+
+-- ---- which numbers are taken for a clock
+
+-- a running clock whose line begins by the latest time at no less than the backstop: its value there needn't be
+-- worked out
+unfoldable pub clearlyRuns : Clock → Bool
+clearlyRuns c =
+    isRunning c
+    && eqb (creationRefusal (c .word) (c .backstop) (c .latest)) 0
+    && drawable (c .line)
+    && leZ (c .line .reference) (c .latest)
+    && leZ (c .backstop) (c .line .synthetic)

@@ -9,7 +9,8 @@ use mathlib.Core.Path.{_≡_}
 use Rattle.clock.specs.Numbers.{END, outside, timeOutside, rateOutside, bit}
 use Rattle.clock.specs.Refusals.{Row, _when_, first}
 use Rattle.clock.specs.Line.{line, valueAt}
-use Rattle.clock.specs.Clock.{monotonic, continuous, oldLine}
+use Rattle.clock.specs.Clock.{monotonic, continuous, byteOf, isRunning, oldLine}
+use Rattle.clock.specs.Taken.{guarded}
 use Rattle.clock.specs.declared.Line.{Line}
 use Rattle.clock.specs.declared.Clock.{Clock}
 use Rattle.clock.specs.declared.Request.{Request}
@@ -91,17 +92,17 @@ updateTable c u now =
     ∷ 5 when valuesOutside u
     ∷ 6 when rateTooWide u
     ∷ 7 when (hasReference u && not (hasSynthetic u || hasRate u))
-    ∷ 8 when (not (c .started) && not (hasSynthetic u))
+    ∷ 8 when (not (isRunning c) && not (hasSynthetic u))
     ∷ 9 when (isContinuous && hasReference u)
-    ∷ 10 when (isContinuous && c .started && hasSynthetic u)
-    ∷ 11 when (isMonotonic && c .started && hasSynthetic u && hasRate u)
+    ∷ 10 when (isContinuous && isRunning c && hasSynthetic u)
+    ∷ 11 when (isMonotonic && isRunning c && hasSynthetic u && hasRate u)
     ∷ 12 when (replaces u && (timeOutside (new .synthetic) || ltZ END newValue))
     ∷ 13 when (replaces u && ltZ newValue (c .backstop))
-    ∷ 14 when (replaces u && isMonotonic && c .started && ltZ newValue oldValue)
+    ∷ 14 when (replaces u && isMonotonic && isRunning c && ltZ newValue oldValue)
     ∷ [])
 
 unfoldable pub updateRefusal : Clock → Request → ℤ → ℕ
-updateRefusal c u now = first (updateTable c u now)
+updateRefusal c u now = first (guarded c (updateTable c u now))
 
 -- ---- the clock that an accepted update leaves
 
@@ -112,13 +113,13 @@ nextGeneration replaced generation = cond replaced ((generation + 1) % 2 ^ 32) g
 -- the first accepted synthetic value starts the clock for good; a flagged error bound is stored; the latest update time becomes now
 unfoldable pub updated : Clock → Request → ℤ → Clock
 updated c u now = record {
-  word = c .word;
-  backstop = c .backstop;
-  started = c .started || hasSynthetic u;
   line = newLine c u now;
+  backstop = c .backstop;
+  latest = now;
   error = cond (hasError u) (u .error) (c .error);
   generation = nextGeneration (replaces u) (c .generation);
-  latest = now;
+  word = c .word;
+  started = byteOf (isRunning c || hasSynthetic u);
 }
 
 -- the answer: the new clock, or the old one with a refusal

@@ -1,19 +1,21 @@
 // A clock by value: created, read, updated and described. Times are whole nanoseconds.
 ghost use mathlib.Core.Path.{_≡_};
 ghost use mathlib.Core.Bool.{cond};
+ghost use lib.Dec.{T};
 ghost use Rattle.clock.specs.Refusals.{first};
-ghost use Rattle.clock.specs.Line.{line, identity};
-ghost use Rattle.clock.specs.Clock.{monotonic, continuous, autoStart, oldLine, InRange, Drawable, Valid};
+ghost use Rattle.clock.specs.Line.{line, identity, zeroLine};
+ghost use Rattle.clock.specs.Clock.{monotonic, continuous, autoStart, byteOf, oldLine, InRange, Drawable, Valid};
 ghost use Rattle.clock.specs.Creation.{creationTable, created, creating, told};
+ghost use Rattle.clock.specs.Taken.{isClock, zeroClock};
 ghost use Rattle.clock.specs.Reading.{clockValue, reading};
 ghost use Rattle.clock.specs.Update.{newLine, updateTable, nextGeneration, updated, updating};
-ghost use Rattle.clock.specs.Details.{isStarted, zeroLine, detailsOf, zeroDetails, detailing};
+ghost use Rattle.clock.specs.Details.{isStarted, detailsOf, zeroDetails, detailing};
 ghost use Rattle.clock.specs.Parts.{rowsBefore, timeTable, placed, readOf, syntheticOf, drawnLine, lineTable};
 
-pub mod arguments;
-mod records;
+mod arguments;
+mod check;
 pub mod refusal;
-pub mod value;
+mod value;
 
 use refusal::next;
 use value::Value;
@@ -26,28 +28,18 @@ pub struct Line {
     pub rate: i32,
 }
 
-// A clock, as creation gave it and accepted updates carried it on.
+// A clock, as creation gave it and accepted updates carried it on. A caller in another language may fill it with any
+// numbers, so each operation first tests whether they are a clock's. The byte started is 1 once the clock is started,
+// 0 before.
+#[repr(C)]
 pub struct Clock {
-    word: u8,
-    backstop: i64,
-    started: bool,
     line: Line,
+    backstop: i64,
+    latest: i64,
     error: u64,
     generation: u32,
-    latest: i64,
-}
-
-// A clock as a record of plain numbers, for callers in other languages. Any numbers may stand in it; in a clock's record
-// started is 1 or 0.
-#[repr(C)]
-pub struct Record {
-    pub backstop: i64,
-    pub line: Line,
-    pub error: u64,
-    pub latest: i64,
-    pub generation: u32,
-    pub word: u8,
-    pub started: u8,
+    word: u8,
+    started: u8,
 }
 
 // An update's word and arguments. The word's flags say which arguments count.
@@ -67,6 +59,7 @@ pub enum Created {
 }
 
 // The clock after an update, or the old one with a refusal. Refusal 0 is none.
+#[repr(C)]
 pub struct Updated {
     pub clock: Clock,
     pub refusal: u8,
@@ -123,6 +116,22 @@ impl Clock {
         through(0, 0, 0)
     }
 
+    // Zeros, which are no clock: they stand where a struct must hold one and there is none.
+    pub fn zeros() -> Clock
+        ensures { λ r. ⌜ r ≡ zeroClock ⌝ }
+    {
+        let line = zero_line();
+        Clock {
+            line,
+            backstop: 0,
+            latest: 0,
+            error: 0,
+            generation: 0,
+            word: 0,
+            started: 0,
+        }
+    }
+
     // A clock, or a refusal. Unless auto start is set the clock isn't started.
     pub fn create(word: u8, backstop: i64, now: i64) -> Created
         ensures { λ r. ⌜ told r ≡ creating word backstop now ⌝ }
@@ -136,9 +145,33 @@ impl Clock {
         }
     }
 
-    // The clock's value at now: the backstop before the start, else the line's value.
+    // The clock's value at now: the backstop before the start, else the line's value. Most clocks that run are told by
+    // a short test; what it leaves open stands behind a call, so that the common way stays quick.
     pub fn read(self, now: i64) -> Reading
-        requires { ⌜ Valid self ⌝ }
+        ensures { λ r. ⌜ r ≡ reading self now ⌝ }
+    {
+        if self.clearly_runs() {
+            self.read_clock(now)
+        } else {
+            self.read_tested(now)
+        }
+    }
+
+    fn read_tested(self, now: i64) -> Reading
+        ensures { λ r. ⌜ r ≡ reading self now ⌝ }
+    {
+        if self.is_clock() {
+            self.read_clock(now)
+        } else {
+            Reading {
+                refusal: refusal::NOT_A_CLOCK,
+                value: 0,
+            }
+        }
+    }
+
+    fn read_clock(self, now: i64) -> Reading
+        requires { ⌜ T (isClock self) ⌝ }
         ensures { λ r. ⌜ r ≡ reading self now ⌝ }
     {
         let refusal = time_refusal(self.latest, now);
@@ -152,7 +185,20 @@ impl Clock {
 
     // The clock as the request leaves it, or unaltered with a refusal.
     pub fn update(self, request: Request, now: i64) -> Updated
-        requires { ⌜ Valid self ⌝ }
+        ensures { λ r. ⌜ r ≡ updating self request now ⌝ }
+    {
+        if self.is_clock() {
+            self.update_clock(request, now)
+        } else {
+            Updated {
+                clock: self,
+                refusal: refusal::NOT_A_CLOCK,
+            }
+        }
+    }
+
+    fn update_clock(self, request: Request, now: i64) -> Updated
+        requires { ⌜ T (isClock self) ⌝ }
         ensures { λ r. ⌜ r ≡ updating self request now ⌝ }
     {
         let refusal = self.request_refusal(request, now);
@@ -170,6 +216,21 @@ impl Clock {
     pub fn details(self, now: i64) -> Detailed
         ensures { λ r. ⌜ r ≡ detailing self now ⌝ }
     {
+        if self.is_clock() {
+            self.details_clock(now)
+        } else {
+            let details = no_details();
+            Detailed {
+                refusal: refusal::NOT_A_CLOCK,
+                details,
+            }
+        }
+    }
+
+    fn details_clock(self, now: i64) -> Detailed
+        requires { ⌜ T (isClock self) ⌝ }
+        ensures { λ r. ⌜ r ≡ detailing self now ⌝ }
+    {
         let refusal = time_refusal(self.latest, now);
         if refusal == 0 {
             let details = self.described(now);
@@ -180,17 +241,19 @@ impl Clock {
         }
     }
 
+    // Whether it is a clock, and started.
     pub fn started(self) -> bool
         ensures { λ r. ⌜ r ≡ isStarted self ⌝ }
     {
-        self.started
+        let taken = self.is_clock();
+        taken & (self.started == 1)
     }
 
     // Rules 1 to 11 of an update: the time, the request, and what the clock allows.
     fn request_refusal(self, request: Request, now: i64) -> u8
         ensures { λ r. ⌜ r ≡ first (rowsBefore 12 (updateTable self request now)) ⌝ }
     {
-        let started = self.started;
+        let started = self.started == 1;
         let monotonic = is_monotonic(self.word);
         let continuous = is_continuous(self.word);
         let synthetic = request.has_synthetic();
@@ -219,7 +282,7 @@ impl Clock {
 
     // The rest of an update that rules 1 to 11 let pass: the new line, and rules 12 to 14.
     fn redraw(self, request: Request, now: i64) -> Updated
-        requires { ⌜ Valid self × (first (rowsBefore 12 (updateTable self request now)) ≡ 0) ⌝ }
+        requires { ⌜ T (isClock self) × (first (rowsBefore 12 (updateTable self request now)) ≡ 0) ⌝ }
         ensures { λ r. ⌜ r ≡ updating self request now ⌝ }
     {
         let old = self.old_line();
@@ -256,7 +319,7 @@ impl Clock {
         let r = next(r, replaced & under, refusal::BELOW_BACKSTOP);
         next(
             r,
-            replaced & monotonic & self.started & less,
+            replaced & monotonic & (self.started == 1) & less,
             refusal::MONOTONIC_BACK,
         )
     }
@@ -269,14 +332,15 @@ impl Clock {
         let synthetic = request.has_synthetic();
         let error = request.error_or(self.error);
         let generation = next_generation(request.replaces(), self.generation);
+        let started = byte_of((self.started == 1) | synthetic);
         Clock {
-            word: self.word,
-            backstop: self.backstop,
-            started: self.started | synthetic,
             line,
+            backstop: self.backstop,
+            latest: now,
             error,
             generation,
-            latest: now,
+            word: self.word,
+            started,
         }
     }
 
@@ -284,7 +348,7 @@ impl Clock {
     fn old_line(self) -> Line
         ensures { λ r. ⌜ r ≡ oldLine self ⌝ }
     {
-        if self.started {
+        if self.started == 1 {
             self.line
         } else {
             Clock::identity_line()
@@ -295,7 +359,7 @@ impl Clock {
         requires { ⌜ Valid self × InRange now ⌝ }
         ensures { λ r. ⌜ r ≡ placed (clockValue self now) ⌝ }
     {
-        if self.started {
+        if self.started == 1 {
             let line = self.line;
             value::value_at(line, now)
         } else {
@@ -306,9 +370,10 @@ impl Clock {
     fn described(self, now: i64) -> Details
         ensures { λ r. ⌜ r ≡ detailsOf self now ⌝ }
     {
-        let line = shown_line(self.started, self.line);
+        let started = self.started == 1;
+        let line = shown_line(started, self.line);
         Details {
-            started: self.started,
+            started,
             line,
             error: self.error,
             generation: self.generation,
@@ -339,7 +404,7 @@ fn time_refusal(latest: i64, now: i64) -> u8
     next(r, now < latest, refusal::NOW_EARLY)
 }
 
-pub fn creation_refusal(word: u8, backstop: i64, now: i64) -> u8
+fn creation_refusal(word: u8, backstop: i64, now: i64) -> u8
     ensures { λ r. ⌜ r ≡ first (creationTable word backstop now) ⌝ }
 {
     let monotonic = is_monotonic(word);
@@ -363,17 +428,24 @@ pub fn creation_refusal(word: u8, backstop: i64, now: i64) -> u8
 fn new_clock(word: u8, backstop: i64, now: i64) -> Clock
     ensures { λ r. ⌜ r ≡ created word backstop now ⌝ }
 {
-    let started = is_auto_start(word);
+    let started = byte_of(is_auto_start(word));
     let line = Clock::identity_line();
     Clock {
-        word,
-        backstop,
-        started,
         line,
+        backstop,
+        latest: now,
         error: Clock::UNKNOWN_ERROR,
         generation: 1,
-        latest: now,
+        word,
+        started,
     }
+}
+
+// 1 for true, 0 for false.
+fn byte_of(b: bool) -> u8
+    ensures { λ r. ⌜ r ≡ byteOf b ⌝ }
+{
+    if b { 1 } else { 0 }
 }
 
 fn is_monotonic(word: u8) -> bool
@@ -382,13 +454,13 @@ fn is_monotonic(word: u8) -> bool
     word / Clock::MONOTONIC % 2 == 1
 }
 
-pub fn is_continuous(word: u8) -> bool
+fn is_continuous(word: u8) -> bool
     ensures { λ r. ⌜ r ≡ continuous word ⌝ }
 {
     word / Clock::CONTINUOUS % 2 == 1
 }
 
-pub fn is_auto_start(word: u8) -> bool
+fn is_auto_start(word: u8) -> bool
     ensures { λ r. ⌜ r ≡ autoStart word ⌝ }
 {
     word / Clock::AUTO_START % 2 == 1
@@ -446,7 +518,7 @@ fn zero_line() -> Line
 }
 
 // Details of zeros.
-pub fn no_details() -> Details
+fn no_details() -> Details
     ensures { λ r. ⌜ r ≡ zeroDetails ⌝ }
 {
     let line = zero_line();

@@ -1,9 +1,11 @@
 -- Demand 1: each answer is what its table says, and what is refused leaves the clock as it was and answers zeros.
 use mathlib.Core.Path.{_≡_, refl}
-use mathlib.Core.Bool.{not, cond}
-use mathlib.Core.Option.{Option, none, some}
+use mathlib.Core.Bool.{Bool, true, false, not, cond}
+use mathlib.Core.List.{List, _∷_}
+use mathlib.Core.Logic.{inl, inr}
+use mathlib.Core.Option.{none, some}
 use Prim.Native.Nat.{ℕ}
-use lib.IntN.{ℤ, pos}
+use lib.IntN.{pos}
 use lib.Dec.{T, eqb}
 use borrow.Author.Tests.{ne-eqb}
 use Rattle.clock.specs.Creation.{creationTable, creationRefusal, created, creating}
@@ -13,8 +15,10 @@ use Rattle.clock.specs.Details.{detailsTable, detailsRefusal, detailsOf, detail
 use Rattle.clock.specs.Calls.{Call, update, ask, read, details, refusalOf, accepted, after}
 use Rattle.clock.specs.declared.Clock.{Clock}
 use Rattle.clock.proofs.Tests.{if-false}
+use Rattle.clock.specs.Refusals.{Row, _when_, Settled}
+use Rattle.clock.specs.Taken.{isClock, NOT_A_CLOCK, guarded}
 use Rattle.clock.proofs.Tables.{settled}
-use Rattle.demands.specs.Demand1.{Demand1·create, Demand1·read, Demand1·update, Demand1·details, Zeros, RefusedUnaltered, Demand1·calls}
+use Rattle.demands.specs.Demand1.{Demand1·create, Demand1·read, Demand1·update, Demand1·details, Demand1·clock, Zeros, RefusedUnaltered, Demand1·refused, Demand1·calls}
 use Rattle.demands.proofs.Rows.{either-way}
 use Rattle.demands.proofs.Walks.{of-any}
 
@@ -28,33 +32,51 @@ demand1·create word backstop now =
     tt refl (λ n h. simp (ne-eqb n 0 h))
 
 pub demand1·read : Demand1·read
-unfolding reading readingRefusal readingTable
+unfolding reading readingRefusal readingTable guarded
 demand1·read c now =
-    settled (readingTable c now)
+    settled (guarded c (readingTable c now))
     (λ n. record { refusal = n; value = cond (eqb n 0) (clockValue c now) (pos 0) })
     (record { refusal = 0; value = clockValue c now })
     (λ n. record { refusal = n; value = pos 0 })
     tt refl (λ n h. simp (ne-eqb n 0 h))
 
 pub demand1·update : Demand1·update
-unfolding updating updateRefusal updateTable
+unfolding updating updateRefusal updateTable guarded
 demand1·update c u now =
-    settled (updateTable c u now)
+    settled (guarded c (updateTable c u now))
     (λ n. record { clock = cond (eqb n 0) (updated c u now) c; refusal = n })
     (record { clock = updated c u now; refusal = 0 })
     (λ n. record { clock = c; refusal = n })
     tt refl (λ n h. simp (ne-eqb n 0 h))
 
 pub demand1·details : Demand1·details
-unfolding detailing detailsRefusal detailsTable
+unfolding detailing detailsRefusal detailsTable guarded
 demand1·details c now =
-    settled (detailsTable c now)
+    settled (guarded c (detailsTable c now))
     (λ n. record { refusal = n; details = cond (eqb n 0) (detailsOf c now) zeroDetails })
     (record { refusal = 0; details = detailsOf c now })
     (λ n. record { refusal = n; details = zeroDetails })
     tt refl (λ n h. simp (ne-eqb n 0 h))
 
--- ---- lists of calls
+-- of a clock the row in front never applies
+own-table : {Answer : Type 0} (c : Clock) (rows : List Row) (answer taken : Answer) (refused : ℕ → Answer) → T (isClock c) →
+    Settled (guarded c rows) answer taken refused → Settled rows answer taken refused
+unfolding guarded
+own-table c rows answer taken refused t settles = go (isClock c) t settles
+  where
+    go : (b : Bool) → T b → Settled (NOT_A_CLOCK when not b ∷ rows) answer taken refused → Settled rows answer taken refused
+    go true t (inl s) = inl (s .0 .1, s .1)
+    go true t (inr s) = inr s
+    go false t s = absurd t
+
+pub demand1·clock : Demand1·clock
+demand1·clock c t = record {
+  read = λ now. own-table c (readingTable c now) _ _ _ t (demand1·read c now);
+  update = λ u now. own-table c (updateTable c u now) _ _ _ t (demand1·update c u now);
+  details = λ now. own-table c (detailsTable c now) _ _ _ t (demand1·details c now);
+}
+
+-- ---- refused calls
 
 pub refused-clock : (c : Clock) (k : Call) → T (not (accepted c k)) → after c k ≡ c
 unfolding after
@@ -67,8 +89,8 @@ refused-zeros c (update u now) n = tt
 refused-zeros c (ask (read now)) n = if-false (eqb (readingRefusal c now) 0) (clockValue c now) (pos 0) n
 refused-zeros c (ask (details now)) n = if-false (eqb (detailsRefusal c now) 0) (detailsOf c now) zeroDetails n
 
-pub refused-unaltered : (c : Clock) (k : Call) → RefusedUnaltered c k
-refused-unaltered c k n = record { clock = refused-clock c k n; zeros = refused-zeros c k n }
+pub demand1·refused : Demand1·refused
+demand1·refused c k n = record { clock = refused-clock c k n; zeros = refused-zeros c k n }
 
 pub demand1·calls : Demand1·calls
-demand1·calls word backstop now c e calls = of-any RefusedUnaltered refused-unaltered c calls
+demand1·calls word backstop now c e calls = of-any RefusedUnaltered demand1·refused c calls

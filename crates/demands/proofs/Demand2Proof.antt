@@ -1,5 +1,5 @@
--- Demand 2, of readings: the backstop, a monotonic clock, a continuous clock.
-use mathlib.Core.Path.{_≡_, ap, _∙_, subst, subst⁻¹}
+-- Demand 2: updates, the backstop, a monotonic clock, a continuous clock.
+use mathlib.Core.Path.{_≡_, refl, ap, _∙_, subst, subst⁻¹}
 use mathlib.Core.Bool.{not, cond}
 use mathlib.Core.List.{List, [], _∷_, _++_}
 use Prim.Native.Nat.{ℕ}
@@ -7,7 +7,8 @@ use lib.IntN.{ℤ}
 use lib.Signed.{_≤ℤ_}
 use lib.Dec.{T}
 use Rattle.clock.specs.Line.{line, valueAt}
-use Rattle.clock.specs.Clock.{monotonic, Valid}
+use Rattle.clock.specs.Clock.{isRunning, monotonic, Valid}
+use Rattle.clock.specs.Taken.{isClock}
 use Rattle.clock.specs.Update.{updated}
 use Rattle.clock.specs.Calls.{Call, update, ask, accepted, after, afterAll, given}
 use Rattle.clock.specs.declared.Line.{Line}
@@ -20,18 +21,30 @@ use Rattle.clock.proofs.Ranges.{≤ℤ-refl}
 use Rattle.clock.proofs.ValueLaws.{running-line, running-value, running-old-value, resting-value, clock-rises, above-backstop}
 use Rattle.demands.specs.Kept.{Kept}
 use Rattle.demands.specs.Demand2.{NotBelow, timeOf, valueOf, moment, times, readings, From, NeverFalls, Agrees}
-use Rattle.demands.specs.Demand2.{Demand2·backstop, Demand2·monotonic, Demand2·continuous}
+use Rattle.demands.specs.Demand2.{AsWritten, Demand2·update, Demand2·backstop, Demand2·monotonic, Demand2·continuous}
 use Rattle.demands.proofs.Rows.{either-way, Known, of-given}
 use Rattle.demands.proofs.AcceptedUpdate.{not-early, updated-started, new-not-back, new-agrees}
 use Rattle.demands.proofs.Walks.{of-each, of-any}
-use Rattle.demands.proofs.Validity.{updated-valid}
+use Rattle.clock.proofs.Taken.{taken-valid}
+use Rattle.demands.proofs.Clocks.{created-clock, updated-clock, after-clock}
+use Rattle.demands.proofs.Demand1Proof.{demand1·clock}
 use Rattle.demands.proofs.KeptProof.{created-kept, after-kept, always-kept, reading-above}
+
+-- ---- each update is as written
+
+written : (c : Clock) (k : Call) → T (isClock c) → AsWritten c k
+written c (ask q) t = tt
+written c (update u now) t = demand1·clock c t .update u now
+
+pub demand2·update : Demand2·update
+demand2·update word backstop now c e calls =
+    of-each (λ d. T (isClock d)) after-clock AsWritten written c calls (created-clock word backstop now c e)
 
 -- ---- no reading is below the backstop
 
 call-not-below : (word : ℕ) (backstop : ℤ) (c : Clock) (k : Call) → Kept word backstop c → NotBelow backstop (given c k)
 call-not-below word backstop c k h = of-given (NotBelow backstop) c k tt
-    (λ v t known. subst (λ (b : ℤ). b ≤ℤ v) (h .sameBackstop) (reading-above c v t (h .valid) known))
+    (λ v t known. subst (λ (b : ℤ). b ≤ℤ v) (h .sameBackstop) (reading-above c v t known))
 
 pub demand2·backstop : Demand2·backstop
 demand2·backstop word backstop now c e calls =
@@ -40,26 +53,29 @@ demand2·backstop word backstop now c e calls =
 
 -- ---- an accepted update never sets a monotonic clock back
 
-pub update-not-back : (c : Clock) (u : Request) (now : ℤ) → T (accepted c (update u now)) → Valid c → T (monotonic (c .word)) →
+updated-valid : (c : Clock) (u : Request) (now : ℤ) → T (accepted c (update u now)) → Valid (updated c u now)
+updated-valid c u now t = taken-valid (updated c u now) (updated-clock c u now t)
+
+pub update-not-back : (c : Clock) (u : Request) (now : ℤ) → T (accepted c (update u now)) → T (monotonic (c .word)) →
     clockValue c now ≤ℤ clockValue (updated c u now) now
 unfolding updated
-update-not-back c u now t v m = by-cases (c .started) running resting
+update-not-back c u now t m = by-cases (isRunning c) running resting
   where
-    running : T (c .started) → clockValue c now ≤ℤ clockValue (updated c u now) now
+    running : T (isRunning c) → clockValue c now ≤ℤ clockValue (updated c u now) now
     running s = rw (running-old-value c now s, running-value (updated c u now) now (updated-started c u now t)) (new-not-back c u now t m s)
 
-    resting : T (not (c .started)) → clockValue c now ≤ℤ clockValue (updated c u now) now
-    resting n = rw (resting-value c now n) (above-backstop (updated c u now) now (updated-valid c u now t v) (≤ℤ-refl now))
+    resting : T (not (isRunning c)) → clockValue c now ≤ℤ clockValue (updated c u now) now
+    resting n = rw (resting-value c now n) (above-backstop (updated c u now) now (updated-valid c u now t) (≤ℤ-refl now))
 
 -- ---- while the times don't fall, a monotonic clock's readings never fall
 
--- the valid monotonic clock c reads at least r from the time τ on
+-- the monotonic clock c reads at least r from the time τ on
 pub record ReadsFrom (τ r : ℤ) (c : Clock) : Type 0 where
   valid : Valid c
   isMonotonic : T (monotonic (c .word))
   atLeast : (t : ℤ) → τ ≤ℤ t → r ≤ℤ clockValue c t
 
--- any valid monotonic clock, from its latest update on
+-- any monotonic clock, from its latest update on
 pub reads-from-latest : (c : Clock) → Valid c → T (monotonic (c .word)) → ReadsFrom (c .latest) (c .backstop) c
 reads-from-latest c v m = record { valid = v; isMonotonic = m; atLeast = λ t h. above-backstop c t v h }
 
@@ -68,12 +84,12 @@ pub reads-from-update : (τ r : ℤ) (c : Clock) (u : Request) (now : ℤ) → T
     ReadsFrom τ r c → ReadsFrom now r (updated c u now)
 unfolding updated
 reads-from-update τ r c u now t h f =
-    let v = updated-valid c u now t (f .valid) in
+    let v = updated-valid c u now t in
     record {
       valid = v;
       isMonotonic = f .isMonotonic;
       atLeast = λ s l. ≤ℤ-trans (f .atLeast now h)
-          (≤ℤ-trans (update-not-back c u now t (f .valid) (f .isMonotonic)) (clock-rises (updated c u now) now s (v .line .rate) l));
+          (≤ℤ-trans (update-not-back c u now t (f .isMonotonic)) (clock-rises (updated c u now) now s (v .line .rate) l));
     }
 
 -- a reading from that time on is not below the bound, and is the bound from then on
@@ -118,17 +134,16 @@ pub demand2·monotonic : Demand2·monotonic
 demand2·monotonic word backstop now c e m before stretch h =
     let d = afterAll c before in
     let k = always-kept word backstop now c e before in
-    let start = reads-from-latest d (k .valid) (subst⁻¹ (λ (w : ℕ). T (monotonic w)) (k .sameWord) m) in
+    let start = reads-from-latest d (taken-valid d (k .clock)) (subst⁻¹ (λ (w : ℕ). T (monotonic w)) (k .sameWord) m) in
     from-never-falls (d .backstop) (readings d stretch) (walk stretch (d .latest) (d .backstop) d start (times-late stretch d h))
 
--- ---- on a running continuous clock the old and new line agree at each accepted update
+-- ---- on a running continuous clock the old and new line agree at each update
 
 pub agrees : (c : Clock) (k : Call) → Agrees c k
 unfolding updated
 agrees c (ask q) = tt
-agrees c (update u now) = λ s k t. either-way (λ b d. T b → valueAt (d .line) now ≡ valueAt (c .line) now) c u now
-    (λ t b. new-agrees c u now t k s ∙ ap (λ (l : Line). valueAt l now) (running-line c s))
-    (λ b. absurd b) t
+agrees c (update u now) = λ s k. either-way (λ b d. valueAt (d .line) now ≡ valueAt (c .line) now) c u now
+    (λ t. new-agrees c u now t k s ∙ ap (λ (l : Line). valueAt l now) (running-line c s)) refl
 
 pub demand2·continuous : Demand2·continuous
 demand2·continuous word backstop now c e calls = of-any Agrees agrees c calls

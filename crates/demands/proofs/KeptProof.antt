@@ -1,68 +1,92 @@
--- What every clock keeps to: its validity, creation's word and backstop, and the start.
-use mathlib.Core.Path.{refl, subst, subst⁻¹}
+-- What is taken for a clock, and what a clock that creation gave keeps to.
+use mathlib.Core.Path.{_≡_, refl, subst}
 use Prim.Native.Nat.{ℕ}
 use lib.IntN.{ℤ}
 use lib.Signed.{_≤ℤ_}
-use lib.Dec.{T, T-not}
-use Rattle.clock.specs.Clock.{Valid}
+use lib.Dec.{T}
+use Rattle.clock.specs.Clock.{isRunning}
 use Rattle.clock.specs.Creation.{created}
-use Rattle.clock.specs.Update.{updated}
-use Rattle.clock.specs.Calls.{Call, update, ask, after, given}
+use Rattle.clock.specs.Reading.{readingTable, readingRefusal, reading}
+use Rattle.clock.specs.Update.{updateTable, updateRefusal, updated, updating}
+use Rattle.clock.specs.Details.{detailsTable, detailsRefusal, detailing}
+use Rattle.clock.specs.Calls.{Call, update, ask, read, details, refusalOf, after}
 use Rattle.clock.specs.declared.Clock.{Clock}
 use Rattle.clock.proofs.Linear.{≤ℤ-trans}
 use Rattle.clock.proofs.ValueLaws.{above-backstop}
+use Rattle.clock.proofs.Taken.{guarded-apart, taken-valid, taken-created, resting-created, zeros-not-taken}
 use Rattle.demands.specs.Lives.{Gave}
-use Rattle.demands.specs.Kept.{Kept, AlwaysKept, StaysStarted, ReadingInRange, ReadingsInRange}
-use Rattle.demands.proofs.Rows.{either-way, gave, Known, of-given}
+use Rattle.demands.specs.Demand2.{NotBelow}
+use Rattle.demands.specs.Kept.{CreationGivesClock, CallsLeaveClock, ClocksValid, UnstartedAsCreated, ZerosNoClock, ToldApart, StaysStarted, WithinRange, AnyReading, Kept, AlwaysKept}
+use Rattle.demands.proofs.Rows.{either-way, gave, gives, Known, of-given}
 use Rattle.demands.proofs.AcceptedUpdate.{updated-started}
-use Rattle.demands.proofs.Walks.{kept-by-all, of-each}
-use Rattle.demands.proofs.Validity.{created-valid, updated-valid, after-valid}
+use Rattle.demands.proofs.Walks.{kept-by-all}
+use Rattle.demands.proofs.Clocks.{created-clock, updated-clock, all-clocks}
 
--- ---- the clock
+-- ---- what is taken for a clock
+
+pub creation-gives-clock : CreationGivesClock
+creation-gives-clock = created-clock
+
+pub calls-leave-clock : CallsLeaveClock
+calls-leave-clock = all-clocks
+
+pub clocks-valid : ClocksValid
+clocks-valid = taken-valid
+
+pub unstarted-as-created : UnstartedAsCreated
+unstarted-as-created c t n =
+    subst (λ (d : Clock). Gave (c .word) (c .backstop) (c .latest) d) (resting-created c t n)
+    (gives (c .word) (c .backstop) (c .latest) (taken-created c t))
+
+pub zeros-no-clock : ZerosNoClock
+zeros-no-clock = zeros-not-taken
+
+-- ---- whatever numbers are handed in
+
+pub told-apart : ToldApart
+unfolding refusalOf reading readingRefusal readingTable updating updateRefusal updateTable detailing detailsRefusal detailsTable
+told-apart c (update u now) = guarded-apart c (updateTable c u now) tt
+told-apart c (ask (read now)) = guarded-apart c (readingTable c now) tt
+told-apart c (ask (details now)) = guarded-apart c (detailsTable c now) tt
+
+pub after-started : (c : Clock) (k : Call) → T (isRunning c) → T (isRunning (after c k))
+unfolding after
+after-started c (ask q) s = s
+after-started c (update u now) s = either-way (λ b d. T (isRunning d)) c u now (λ t. updated-started c u now t) s
+
+pub stays-started : StaysStarted
+stays-started = kept-by-all (λ c. T (isRunning c)) after-started
+
+pub reading-above : (c : Clock) (v t : ℤ) → Known c v t → c .backstop ≤ℤ v
+reading-above c v t known =
+    subst (λ (x : ℤ). c .backstop ≤ℤ x) (known .is) (above-backstop c t (taken-valid c (known .taken)) (known .late))
+
+pub any-reading : AnyReading
+any-reading c k = (
+  of-given (NotBelow (c .backstop)) c k tt (reading-above c),
+  of-given WithinRange c k tt
+      (λ v t known. record {
+        low = ≤ℤ-trans (taken-valid c (known .taken) .backstop .low) (reading-above c v t known);
+        high = known .high;
+      }),
+)
+
+-- ---- a clock that creation gave
 
 pub created-kept : (word : ℕ) (backstop now : ℤ) (c : Clock) → Gave word backstop now c → Kept word backstop c
 unfolding created
-created-kept word backstop now c e =
-    let is = gave word backstop now c e .is in
-    subst (Kept word backstop) is (record {
-      valid = subst⁻¹ Valid is (created-valid word backstop now c e);
-      sameWord = refl;
-      sameBackstop = refl;
-      unstarted = λ n. refl;
-    })
+created-kept word backstop now c e = record {
+  clock = created-clock word backstop now c e;
+  sameWord = subst (λ (d : Clock). d .word ≡ word) (gave word backstop now c e .is) refl;
+  sameBackstop = subst (λ (d : Clock). d .backstop ≡ backstop) (gave word backstop now c e .is) refl;
+}
 
 pub after-kept : (word : ℕ) (backstop : ℤ) (c : Clock) (k : Call) → Kept word backstop c → Kept word backstop (after c k)
 unfolding after updated
 after-kept word backstop c (ask q) h = h
 after-kept word backstop c (update u now) h = either-way (λ b d. Kept word backstop d) c u now
-    (λ t. record {
-      valid = updated-valid c u now t (h .valid);
-      sameWord = h .sameWord;
-      sameBackstop = h .sameBackstop;
-      unstarted = λ n. absurd (T-not (updated c u now .started) n (updated-started c u now t));
-    }) h
+    (λ t. record { clock = updated-clock c u now t; sameWord = h .sameWord; sameBackstop = h .sameBackstop }) h
 
 pub always-kept : AlwaysKept
 always-kept word backstop now c e calls =
     kept-by-all (Kept word backstop) (after-kept word backstop) c calls (created-kept word backstop now c e)
-
-pub after-started : (c : Clock) (k : Call) → T (c .started) → T (after c k .started)
-unfolding after
-after-started c (ask q) s = s
-after-started c (update u now) s = either-way (λ b d. T (d .started)) c u now (λ t. updated-started c u now t) s
-
-pub stays-started : StaysStarted
-stays-started = kept-by-all (λ c. T (c .started)) after-started
-
--- ---- its readings
-
-pub reading-above : (c : Clock) (v t : ℤ) → Valid c → Known c v t → c .backstop ≤ℤ v
-reading-above c v t valid k = subst (λ (x : ℤ). c .backstop ≤ℤ x) (k .is) (above-backstop c t valid (k .late))
-
-pub reading-in-range : (c : Clock) (k : Call) → Valid c → ReadingInRange (given c k)
-reading-in-range c k valid = of-given ReadingInRange c k tt
-    (λ v t known. record { low = ≤ℤ-trans (valid .backstop .low) (reading-above c v t valid known); high = known .high })
-
-pub readings-in-range : ReadingsInRange
-readings-in-range word backstop now c e calls =
-    of-each Valid after-valid (λ d k. ReadingInRange (given d k)) reading-in-range c calls (created-valid word backstop now c e)

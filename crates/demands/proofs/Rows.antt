@@ -8,13 +8,16 @@ use lib.Signed.{ltZ, _≤ℤ_}
 use lib.Dec.{T, eqb, eqb→eq}
 use Rattle.clock.specs.Numbers.{END, timeOutside}
 use Rattle.clock.specs.Line.{valueAt}
-use Rattle.clock.specs.Clock.{monotonic, continuous, autoStart, oldLine}
-use Rattle.clock.specs.Creation.{creationTable, creationRefusal, created, creating}
+use Rattle.clock.specs.Clock.{isRunning, monotonic, continuous, oldLine}
+use Rattle.clock.specs.Creation.{creationRefusal, created, creating}
 use Rattle.clock.specs.Reading.{clockValue, readingTable, readingRefusal, reading}
 use Rattle.clock.specs.Update.{hasSynthetic, hasReference, replaces, valuesOutside, rateTooWide, newLine, updateTable, updateRefusal, updated, updating}
 use Rattle.clock.specs.Calls.{Call, update, ask, read, details, refusalOf, accepted, after, Given, nothing, _at_, given}
 use Rattle.clock.specs.declared.Clock.{Clock}
 use Rattle.clock.specs.declared.Request.{Request}
+use Rattle.clock.specs.Refusals.{first}
+use Rattle.clock.specs.Taken.{isClock}
+use Rattle.clock.proofs.Taken.{guarded-passed}
 use Rattle.clock.proofs.Tables.{test, numbered, passed}
 use Rattle.clock.proofs.Ranges.{not-less}
 use Rattle.demands.specs.Lives.{Gave}
@@ -24,7 +27,12 @@ use Rattle.demands.specs.Lives.{Gave}
 row : (k : ℕ) (c : Clock) (u : Request) (now : ℤ) → T (numbered (updateTable c u now)) →
     T (accepted c (update u now)) → T (not (test k (updateTable c u now)))
 unfolding accepted refusalOf updating updateRefusal
-row k c u now p t = passed k (updateTable c u now) p (eqb→eq (updateRefusal c u now) 0 t)
+row k c u now p t = passed k (updateTable c u now) p (guarded-passed c (updateTable c u now) (eqb→eq (updateRefusal c u now) 0 t) .1)
+
+-- what takes an update is a clock
+pub updates-clock : (c : Clock) (u : Request) (now : ℤ) → T (accepted c (update u now)) → T (isClock c)
+unfolding accepted refusalOf updating updateRefusal
+updates-clock c u now t = guarded-passed c (updateTable c u now) (eqb→eq (updateRefusal c u now) 0 t) .0
 
 module _ (c : Clock) (u : Request) (now : ℤ) (t : T (accepted c (update u now))) where
   pub row1 : T (not (timeOutside now))
@@ -43,7 +51,7 @@ module _ (c : Clock) (u : Request) (now : ℤ) (t : T (accepted c (update u now)
   unfolding updateTable
   row6 = row 6 c u now tt t
 
-  pub row8 : T (not (not (c .started) && not (hasSynthetic u)))
+  pub row8 : T (not (not (isRunning c) && not (hasSynthetic u)))
   unfolding updateTable
   row8 = row 8 c u now tt t
 
@@ -51,7 +59,7 @@ module _ (c : Clock) (u : Request) (now : ℤ) (t : T (accepted c (update u now)
   unfolding updateTable
   row9 = row 9 c u now tt t
 
-  pub row10 : T (not (continuous (c .word) && c .started && hasSynthetic u))
+  pub row10 : T (not (continuous (c .word) && isRunning c && hasSynthetic u))
   unfolding updateTable
   row10 = row 10 c u now tt t
 
@@ -63,7 +71,7 @@ module _ (c : Clock) (u : Request) (now : ℤ) (t : T (accepted c (update u now)
   unfolding updateTable
   row13 = row 13 c u now tt t
 
-  pub row14 : T (not (replaces u && monotonic (c .word) && c .started && ltZ (valueAt (newLine c u now) now) (valueAt (oldLine c) now)))
+  pub row14 : T (not (replaces u && monotonic (c .word) && isRunning c && ltZ (valueAt (newLine c u now) now) (valueAt (oldLine c) now)))
   unfolding updateTable
   row14 = row 14 c u now tt t
 
@@ -111,6 +119,7 @@ gives word backstop now e =
 -- what is known of a reading v at t that a call gives
 pub record Known (c : Clock) (v t : ℤ) : Type 0 where
   pub is : clockValue c t ≡ v
+  pub taken : T (isClock c)
   pub late : c .latest ≤ℤ t
   pub high : v ≤ℤ END
 
@@ -122,16 +131,17 @@ known : (c : Clock) (k : Call) → IfGiven c (given c k)
 unfolding given accepted refusalOf reading readingRefusal readingTable
 known c (update u now) = tt
 known c (ask (details now)) = tt
-known c (ask (read now)) = go (eqb (readingRefusal c now) 0) (λ k t. passed k (readingTable c now) tt (eqb→eq (readingRefusal c now) 0 t))
+known c (ask (read now)) = go (eqb (readingRefusal c now) 0) (λ t. guarded-passed c (readingTable c now) (eqb→eq (readingRefusal c now) 0 t))
   where
-    go : (b : Bool) → ((k : ℕ) → T b → T (not (test k (readingTable c now)))) →
+    go : (b : Bool) → (T b → T (isClock c) × (first (readingTable c now) ≡ 0)) →
         IfGiven c (cond b (cond b (clockValue c now) (pos 0) at now) nothing)
-    go true row = record {
+    go true passes = record {
       is = refl;
-      late = not-less now (c .latest) (row 2 tt);
-      high = not-less END (clockValue c now) (row 12 tt);
+      taken = passes tt .0;
+      late = not-less now (c .latest) (passed 2 (readingTable c now) tt (passes tt .1));
+      high = not-less END (clockValue c now) (passed 12 (readingTable c now) tt (passes tt .1));
     }
-    go false row = tt
+    go false passes = tt
 
 -- what holds of no reading, and of each of which this is known, holds of what a call gives
 pub of-given : (Claim : Given → Type 0) (c : Clock) (k : Call) →

@@ -1,5 +1,5 @@
 -- Demand 1: each operation answers a value, or the one numbered refusal that its table gives; a refusal hands the clock back
--- unaltered and answers the zeros that 01 names. What is said of one call holds of every clock.
+-- unaltered and answers the zeros that 01 names. Any numbers may be handed in for a clock.
 use mathlib.Core.Bool.{not}
 use mathlib.Core.List.{List}
 use mathlib.Core.Option.{none, some}
@@ -7,7 +7,8 @@ use mathlib.Core.Path.{_≡_}
 use Prim.Native.Nat.{ℕ}
 use lib.IntN.{ℤ, pos}
 use lib.Dec.{T}
-use Rattle.clock.specs.Refusals.{Settled}
+use Rattle.clock.specs.Refusals.{Row, Settled}
+use Rattle.clock.specs.Taken.{isClock, guarded}
 use Rattle.clock.specs.Creation.{creationTable, created, creating}
 use Rattle.clock.specs.Reading.{clockValue, readingTable, reading}
 use Rattle.clock.specs.Update.{updateTable, updated, updating}
@@ -25,26 +26,42 @@ Demand1·create = (word : ℕ) (backstop now : ℤ) →
     (record { refusal = 0; clock = some (created word backstop now) })
     (λ n. record { refusal = n; clock = none })
 
-abbrev pub Demand1·read : Type 0
-Demand1·read = (c : Clock) (now : ℤ) →
-    Settled (readingTable c now) (reading c now)
+-- a call on c is settled by these rows
+abbrev pub ReadBy : List Row → Clock → ℤ → Type 0
+ReadBy rows c now = Settled rows (reading c now)
     (record { refusal = 0; value = clockValue c now })
     (λ n. record { refusal = n; value = pos 0 })
 
--- this is also the first sentence of demand 2: refused exactly under the rules, in their order, and otherwise the effect
-abbrev pub Demand1·update : Type 0
-Demand1·update = (c : Clock) (u : Request) (now : ℤ) →
-    Settled (updateTable c u now) (updating c u now)
+abbrev pub UpdatedBy : List Row → Clock → Request → ℤ → Type 0
+UpdatedBy rows c u now = Settled rows (updating c u now)
     (record { clock = updated c u now; refusal = 0 })
     (λ n. record { clock = c; refusal = n })
 
-abbrev pub Demand1·details : Type 0
-Demand1·details = (c : Clock) (now : ℤ) →
-    Settled (detailsTable c now) (detailing c now)
+abbrev pub DetailedBy : List Row → Clock → ℤ → Type 0
+DetailedBy rows c now = Settled rows (detailing c now)
     (record { refusal = 0; details = detailsOf c now })
     (λ n. record { refusal = n; details = zeroDetails })
 
--- ---- over every list of calls a refused call leaves the clock as it was, and answers zeros
+-- of anything that is handed in: the row of our own, then the paper's table
+abbrev pub Demand1·read : Type 0
+Demand1·read = (c : Clock) (now : ℤ) → ReadBy (guarded c (readingTable c now)) c now
+
+abbrev pub Demand1·update : Type 0
+Demand1·update = (c : Clock) (u : Request) (now : ℤ) → UpdatedBy (guarded c (updateTable c u now)) c u now
+
+abbrev pub Demand1·details : Type 0
+Demand1·details = (c : Clock) (now : ℤ) → DetailedBy (guarded c (detailsTable c now)) c now
+
+-- of a clock: the paper's table alone
+pub record ByThePaper (c : Clock) : Type 0 where
+  pub read : (now : ℤ) → ReadBy (readingTable c now) c now
+  pub update : (u : Request) (now : ℤ) → UpdatedBy (updateTable c u now) c u now
+  pub details : (now : ℤ) → DetailedBy (detailsTable c now) c now
+
+abbrev pub Demand1·clock : Type 0
+Demand1·clock = (c : Clock) → T (isClock c) → ByThePaper c
+
+-- ---- a refused call leaves the clock as it was, and answers zeros
 
 abbrev pub Zeros : Clock → Call → Type 0
 Zeros c (update u now) = Unit {0}
@@ -58,6 +75,11 @@ pub record Unaltered (c : Clock) (k : Call) : Type 0 where
 abbrev pub RefusedUnaltered : Clock → Call → Type 0
 RefusedUnaltered c k = T (not (accepted c k)) → Unaltered c k
 
+-- whatever is handed in
+abbrev pub Demand1·refused : Type 0
+Demand1·refused = (c : Clock) (k : Call) → RefusedUnaltered c k
+
+-- at each call of a list
 abbrev pub Demand1·calls : Type 0
 Demand1·calls = (word : ℕ) (backstop now : ℤ) (c : Clock) → Gave word backstop now c →
     (calls : List Call) → Each RefusedUnaltered c calls

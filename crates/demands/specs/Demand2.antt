@@ -1,5 +1,5 @@
 -- Demand 2: updates, the backstop, a monotonic clock, a continuous clock.
-use mathlib.Core.Bool.{Bool, cond}
+use mathlib.Core.Bool.{cond}
 use mathlib.Core.List.{List, [], _∷_}
 use mathlib.Core.Path.{_≡_}
 use Prim.Native.Nat.{ℕ}
@@ -7,18 +7,23 @@ use lib.IntN.{ℤ}
 use lib.Signed.{_≤ℤ_}
 use lib.Dec.{T}
 use Rattle.clock.specs.Line.{valueAt}
-use Rattle.clock.specs.Clock.{monotonic, continuous}
-use Rattle.clock.specs.Update.{updating, SameRequest}
+use Rattle.clock.specs.Clock.{isRunning, monotonic, continuous}
+use Rattle.clock.specs.Update.{updateTable, updating, SameRequest}
 use Rattle.clock.specs.Calls.{Call, update, ask, accepted, after, afterAll, Given, nothing, _at_, given}
 use Rattle.clock.specs.declared.Clock.{Clock}
 use Rattle.clock.specs.declared.Request.{Request}
-use Rattle.demands.specs.Demand1.{Demand1·update}
+use Rattle.demands.specs.Demand1.{UpdatedBy}
 use Rattle.demands.specs.Lives.{Gave, Each, gathered}
 
 -- ---- an update is refused exactly under the written rules, in their order, and otherwise has exactly the written effect
 
+abbrev pub AsWritten : Clock → Call → Type 0
+AsWritten c (update u now) = UpdatedBy (updateTable c u now) c u now
+AsWritten c (ask q) = Unit {0}
+
 abbrev pub Demand2·update : Type 0
-Demand2·update = Demand1·update
+Demand2·update = (word : ℕ) (backstop now : ℤ) (c : Clock) → Gave word backstop now c →
+    (calls : List Call) → Each AsWritten c calls
 
 -- arguments not flagged are ignored
 abbrev pub IgnoresUnflagged : Type 0
@@ -70,10 +75,10 @@ Demand2·monotonic = (word : ℕ) (backstop now : ℤ) (c : Clock) → Gave word
     (before stretch : List Call) →
     NeverFalls (times (afterAll c before) stretch) → NeverFalls (readings (afterAll c before) stretch)
 
--- ---- on a running continuous clock the old and new line agree at each accepted update
+-- ---- on a running continuous clock the old and new line agree at each update
 
 abbrev pub Agrees : Clock → Call → Type 0
-Agrees c (update u now) = T (c .started) → T (continuous (c .word)) → T (accepted c (update u now)) →
+Agrees c (update u now) = T (isRunning c) → T (continuous (c .word)) →
     valueAt (after c (update u now) .line) now ≡ valueAt (c .line) now
 Agrees c (ask q) = Unit {0}
 

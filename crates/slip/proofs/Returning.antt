@@ -25,7 +25,8 @@ use Rattle.slip.specs.Reading.{headed, valuesIn, rateFieldIn, paddingIn,
 use Rattle.slip.specs.Writing.{valuesOf, slipOf}
 use Rattle.slip.specs.Parts.{refusedBy, requestOf}
 use Rattle.slip.specs.RoundTrips.{UnflaggedZero, Sized}
-use Rattle.slip.proofs.Tables.{nothing-told, not-less, is-zero}
+use Rattle.clock.proofs.Tables.{nothing-told}
+use Rattle.slip.proofs.Tables.{not-less, is-zero}
 use Rattle.slip.proofs.Layouts.{length-low, length-alike, layout-alike}
 use Rattle.slip.proofs.Arguments.{time-back, rate-back}
 use Rattle.slip.proofs.Writings.{Writable}

@@ -1,5 +1,4 @@
 // The worked cases of 01 that speak of clocks, a line for each life of a clock. Case 12 speaks of slips.
-ghost use Rattle.trials.specs.Life.{Alive};
 use clock::Clock;
 use clock::Created;
 use trials::create;
@@ -38,9 +37,7 @@ fn main() {
 }
 
 // Case 1's clock, on which cases 2 and 7 go on.
-fn clock_1() -> Created
-    ensures { λ r. ⌜ Alive r ⌝ }
-{
+fn clock_1() -> Created {
     let c = create(PLAIN, 0, 0);
     let c = update(c, requests::set(1500), 100);
     read(c, 350);
@@ -180,9 +177,7 @@ fn reference_and_rate_started(word: u8) {
     lines::end();
 }
 
-fn started(word: u8) -> Created
-    ensures { λ r. ⌜ Alive r ⌝ }
-{
+fn started(word: u8) -> Created {
     let c = create(word, 0, 0);
     update(c, requests::set(1500), 10)
 }

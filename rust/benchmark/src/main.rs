@@ -10,6 +10,7 @@ mod table;
 
 use std::process::ExitCode;
 
+use cementoad::ffi;
 use table::Line;
 
 const RUNS: usize = 101;
@@ -25,6 +26,11 @@ fn main() -> ExitCode {
             return ExitCode::FAILURE;
         }
     };
+    assert_eq!(
+        ffi::cementoad_abi(),
+        ffi::ABI,
+        "archive and crate are of different versions"
+    );
     let wanted = arguments.next().unwrap_or_default();
     let mut rows = rows::rows();
     rows.retain(|row| row.name.contains(&wanted));

@@ -6,7 +6,7 @@ use second::{Right, Rules};
 /// A clock as each side holds it.
 #[derive(Clone, Copy)]
 pub struct Clocks {
-    pub library: ffi::Record,
+    pub library: ffi::Clock,
     pub plain: second::Clock,
 }
 
@@ -58,15 +58,15 @@ fn line(line: ffi::Line) -> second::Line {
     }
 }
 
-fn clock(record: ffi::Record) -> second::Clock {
+fn clock(clock: ffi::Clock) -> second::Clock {
     second::Clock {
-        word: record.word,
-        backstop: record.backstop.into(),
-        started: record.started != 0,
-        line: line(record.line),
-        error: record.error.into(),
-        generation: record.generation.into(),
-        latest: record.latest.into(),
+        word: clock.word,
+        backstop: clock.backstop.into(),
+        started: clock.started != 0,
+        line: line(clock.line),
+        error: clock.error.into(),
+        generation: clock.generation.into(),
+        latest: clock.latest.into(),
     }
 }
 
@@ -118,13 +118,11 @@ impl Answer for ffi::Reading {
     }
 }
 
-/// Only clocks are handed in, so the refusal is 0 and the plain version has none.
-impl Answer for ffi::Started {
+impl Answer for bool {
     type Plain = bool;
 
     fn plainly(self) -> bool {
-        assert_eq!(self.refusal, 0);
-        self.started
+        self
     }
 }
 

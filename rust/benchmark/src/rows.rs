@@ -24,7 +24,7 @@ pub fn rows() -> Vec<Row> {
     vec![
         loop_alone("no call: the loop alone"),
         empty("empty call: the length of a slip of word 0"),
-        started("started, which tests the record", inputs::askings(dice, Distance::Near)),
+        started("started, which tests the clock", inputs::askings(dice, Distance::Near)),
         creation("creation", inputs::creations(dice)),
         reading("reading, before the start", inputs::resting(dice)),
         reading("reading, near", inputs::askings(dice, Distance::Near)),
@@ -116,7 +116,7 @@ fn creation(name: &str, inputs: Vec<(u8, i64, i64)>) -> Row {
 }
 
 /// A clock and a time, as each side takes them.
-fn split(inputs: Vec<Asking>) -> Vec<((ffi::Record, i64), (second::Clock, i64))> {
+fn split(inputs: Vec<Asking>) -> Vec<((ffi::Clock, i64), (second::Clock, i64))> {
     let sides = |Asking { clocks, now }| ((clocks.library, now), (clocks.plain, now));
     inputs.into_iter().map(sides).collect()
 }
@@ -125,7 +125,7 @@ fn started(name: &str, inputs: Vec<Asking>) -> Row {
     row(
         name,
         split(inputs),
-        |(record, _)| ffi::cementoad_is_started(*record),
+        |(clock, _)| ffi::cementoad_is_started(*clock),
         |(clock, _)| Right.started(clock),
     )
 }
@@ -134,7 +134,7 @@ fn reading(name: &str, inputs: Vec<Asking>) -> Row {
     row(
         name,
         split(inputs),
-        |(record, now)| ffi::cementoad_read(*record, *now),
+        |(clock, now)| ffi::cementoad_read(*clock, *now),
         |(clock, now)| Right.read(clock, *now),
     )
 }
@@ -143,7 +143,7 @@ fn details(name: &str, inputs: Vec<Asking>) -> Row {
     row(
         name,
         split(inputs),
-        |(record, now)| ffi::cementoad_get_details(*record, *now),
+        |(clock, now)| ffi::cementoad_get_details(*clock, *now),
         |(clock, now)| Right.details(clock, *now),
     )
 }
@@ -153,7 +153,7 @@ fn update(name: &str, inputs: Vec<Updating>) -> Row {
     row(
         name,
         inputs.into_iter().map(sides).collect(),
-        |(record, request, now)| ffi::cementoad_update(*record, *request, *now),
+        |(clock, request, now)| ffi::cementoad_update(*clock, *request, *now),
         |(clock, request, now)| Right.update(clock, request, *now),
     )
 }

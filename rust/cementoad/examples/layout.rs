@@ -25,12 +25,11 @@ macro_rules! layout {
 
 fn structs() {
     layout!(line Line: reference, synthetic, rate);
-    layout!(record Record: backstop, line, error, latest, generation, word, started);
+    layout!(clock Clock: line, backstop, latest, error, generation, word, started);
     layout!(request Request: word, synthetic, reference, rate, error);
     layout!(created Created: clock, refusal);
     layout!(updated Updated: clock, refusal);
     layout!(reading Reading: refusal, value);
-    layout!(started Started: refusal, started);
     layout!(details Details: started, line, error, generation, latest, word, backstop, now);
     layout!(detailed Detailed: refusal, details);
     layout!(received Received: request, refusal);
@@ -38,6 +37,7 @@ fn structs() {
 }
 
 fn constants() {
+    println!("ABI {}", ffi::ABI);
     println!("END {}", Clock::END);
     println!("MAX_RATE {}", Clock::MAX_RATE);
     println!("UNKNOWN_ERROR {}", Clock::UNKNOWN_ERROR);

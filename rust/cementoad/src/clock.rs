@@ -1,5 +1,6 @@
 //! Clocks, and what they tell of themselves.
 
+use crate::abi::check_archive;
 use crate::ffi::{self, Details};
 use crate::refusal::check;
 use crate::{Refusal, Request};
@@ -24,7 +25,7 @@ use crate::{Refusal, Request};
 /// ```
 #[derive(Clone, Debug, PartialEq, Eq, Hash)]
 pub struct Clock {
-    record: ffi::Record,
+    raw: ffi::Clock,
 }
 
 impl Clock {
@@ -58,9 +59,10 @@ impl Clock {
     /// # Ok::<(), Refusal>(())
     /// ```
     pub fn create(word: u8, backstop: i64, now: i64) -> Result<Clock, Refusal> {
+        check_archive();
         let created = ffi::cementoad_create(word, backstop, now);
         check(created.refusal)?;
-        Ok(Clock { record: created.clock })
+        Ok(Clock { raw: created.clock })
     }
 
     /// The clock's value at now, which is the backstop before the start; or refusal 1, 2 or 12.
@@ -75,7 +77,7 @@ impl Clock {
     /// # Ok::<(), Refusal>(())
     /// ```
     pub fn read(&self, now: i64) -> Result<i64, Refusal> {
-        let reading = ffi::cementoad_read(self.record, now);
+        let reading = ffi::cementoad_read(self.raw, now);
         check(reading.refusal)?;
         Ok(reading.value)
     }
@@ -93,9 +95,9 @@ impl Clock {
     /// # Ok::<(), Refusal>(())
     /// ```
     pub fn update(&mut self, request: &Request, now: i64) -> Result<(), Refusal> {
-        let updated = ffi::cementoad_update(self.record, request.into(), now);
+        let updated = ffi::cementoad_update(self.raw, request.into(), now);
         check(updated.refusal)?;
-        self.record = updated.clock;
+        self.raw = updated.clock;
         Ok(())
     }
 
@@ -116,16 +118,14 @@ impl Clock {
     /// # Ok::<(), cementoad::Refusal>(())
     /// ```
     pub fn details(&self, now: i64) -> Result<Details, Refusal> {
-        let detailed = ffi::cementoad_get_details(self.record, now);
+        let detailed = ffi::cementoad_get_details(self.raw, now);
         check(detailed.refusal)?;
         Ok(detailed.details)
     }
 
     /// Whether the clock is started.
     pub fn started(&self) -> bool {
-        let answer = ffi::cementoad_is_started(self.record);
-        check(answer.refusal).expect("the paper has no refusal for this");
-        answer.started
+        ffi::cementoad_is_started(self.raw)
     }
 }
 

@@ -1,10 +1,14 @@
 //! The archive's own functions, as `include/cementoad.h` declares them. Each takes any numbers and ends; only the
 //! pointers of the two slip functions ask for care. Bytes between the fields of a struct may hold anything.
 
+/// The version of the boundary that is declared here. It goes up with every change of a struct, a function or a number
+/// that callers were built with. Where [`cementoad_abi`] answers another, nothing else of the archive may be called.
+pub const ABI: u32 = 1;
+
 /// The refusal of an answer in which nothing is refused.
 pub const NO_REFUSAL: u8 = 0;
 
-/// The refusal, not of the paper and checked before all others, of a record that creation and accepted updates can't give.
+/// The refusal, not of the paper and checked before all others, of what fails the test that is told at [`Clock`].
 pub const NOT_A_CLOCK: u8 = 255;
 
 /// A line through the point (reference, synthetic) that gains 1,000,000 + rate millionths of a nanosecond in each
@@ -20,24 +24,30 @@ pub struct Line {
     pub rate: i32,
 }
 
-/// A clock as a record of numbers. One filled in by hand is no clock, and nothing is promised of its readings; those that
-/// are found out are refused with [`NOT_A_CLOCK`].
+/// A clock. Each call on one first tests what it is handed, and is refused with [`NOT_A_CLOCK`] unless creation would
+/// take the word and the backstop at the latest time, and
+/// - `started` is 1, the line's reference and synthetic lie in 0..END, its rate lies in -1000..1000, and its value at
+///   the latest time is not below the backstop; or
+/// - `started` is 0, auto start is not set, and line, error and generation are as creation leaves them.
+///
+/// So zeros are no clock. Of a made-up clock that passes nothing is promised but this: each call ends and answers by
+/// the same rules, what an update hands back passes again, and no reading is below the backstop or outside 0..END.
 #[repr(C)]
 #[derive(Clone, Copy, Debug, Default, PartialEq, Eq, Hash)]
-pub struct Record {
+pub struct Clock {
+    /// The line that the clock follows, zeros before the start.
+    pub line: Line,
     /// The value below which the clock never reads.
     pub backstop: i64,
-    /// The line that a started clock follows.
-    pub line: Line,
-    /// The error bound in nanoseconds, all ones where it is unknown.
-    pub error: u64,
     /// The time of the latest accepted update, or of creation.
     pub latest: i64,
+    /// The error bound in nanoseconds, all ones where it is unknown.
+    pub error: u64,
     /// 1 at creation, one more each time the line is replaced, from 2^32 - 1 to 0.
     pub generation: u32,
     /// The creation word.
     pub word: u8,
-    /// 1 if the clock is started, else 0.
+    /// 1 once the clock is started, 0 before.
     pub started: u8,
 }
 
@@ -62,17 +72,17 @@ pub struct Request {
 #[derive(Clone, Copy, Debug, PartialEq, Eq)]
 pub struct Created {
     /// The new clock.
-    pub clock: Record,
+    pub clock: Clock,
     /// The refusal's number, 0 for none.
     pub refusal: u8,
 }
 
-/// The clock after an update, or the old record unaltered with a refusal.
+/// The clock after an update, or with a refusal what was handed in, unaltered, whether it is a clock or not.
 #[repr(C)]
 #[derive(Clone, Copy, Debug, PartialEq, Eq)]
 pub struct Updated {
     /// The clock after the update.
-    pub clock: Record,
+    pub clock: Clock,
     /// The refusal's number, 0 for none.
     pub refusal: u8,
 }
@@ -85,16 +95,6 @@ pub struct Reading {
     pub refusal: u8,
     /// The clock's value, in nanoseconds.
     pub value: i64,
-}
-
-/// Whether a clock is started, false where it is refused.
-#[repr(C)]
-#[derive(Clone, Copy, Debug, PartialEq, Eq)]
-pub struct Started {
-    /// The refusal's number, 0 for none.
-    pub refusal: u8,
-    /// Whether the clock is started.
-    pub started: bool,
 }
 
 /// What a clock tells of itself at a time.
@@ -151,20 +151,23 @@ pub struct Written {
 
 // The safe ones take and give numbers alone, and each is proved to end and answer for any of them.
 unsafe extern "C" {
+    /// The archive's version, to be compared with [`ABI`].
+    pub safe fn cementoad_abi() -> u32;
+
     /// A clock, or refusal 1, 3, 15, 16 or 17.
     pub safe fn cementoad_create(word: u8, backstop: i64, now: i64) -> Created;
 
     /// The clock's value at now, or refusal 1, 2, 12 or 255.
-    pub safe fn cementoad_read(clock: Record, now: i64) -> Reading;
+    pub safe fn cementoad_read(clock: Clock, now: i64) -> Reading;
 
     /// The clock as the request leaves it, or unaltered with refusal 1 to 14 or 255.
-    pub safe fn cementoad_update(clock: Record, request: Request, now: i64) -> Updated;
+    pub safe fn cementoad_update(clock: Clock, request: Request, now: i64) -> Updated;
 
     /// What the clock tells of itself at now, or refusal 1, 2 or 255.
-    pub safe fn cementoad_get_details(clock: Record, now: i64) -> Detailed;
+    pub safe fn cementoad_get_details(clock: Clock, now: i64) -> Detailed;
 
-    /// Whether the clock is started, or refusal 255.
-    pub safe fn cementoad_is_started(clock: Record) -> Started;
+    /// Whether it is a clock and started.
+    pub safe fn cementoad_is_started(clock: Clock) -> bool;
 
     /// The request of a slip that is all of the bytes, or refusal 3, 6, 18, 19 or 20.
     ///

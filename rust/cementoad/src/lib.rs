@@ -2,6 +2,7 @@
 //!
 //! The work is done by a static archive that is proved: each answer is exactly the one that the rules give, for any
 //! words, numbers, times and bytes that are handed in. This crate puts Rust's own idioms around it and decides nothing.
+//! It panics at first use where the archive is of another version than the one it was written for.
 //! Times and values are whole nanoseconds in 0..[`Clock::END`], rates are whole parts per million.
 //!
 //! ```
@@ -25,6 +26,7 @@
 //! ```
 #![deny(missing_docs)]
 
+mod abi;
 mod clock;
 pub mod ffi;
 mod refusal;

@@ -126,8 +126,8 @@ impl Error for UnknownRefusal {}
 ///
 /// # Panics
 /// For a number that is neither 0 nor one of the paper's. The archive has none for what this crate hands in: 255 (not a
-/// clock) is for records that no `Clock` holds. Such a number means that archive and crate don't belong together, and
-/// no answer can be trusted then. A case of its own in `Refusal` would ask every caller to handle what can't be handled.
+/// clock) is for what no `Clock` holds. Such a number means that archive and crate don't belong together, and no
+/// answer can be trusted then. A case of its own in `Refusal` would ask every caller to handle what can't be handled.
 pub(crate) fn check(number: u8) -> Result<(), Refusal> {
     match number {
         ffi::NO_REFUSAL => Ok(()),

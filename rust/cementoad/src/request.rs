@@ -3,6 +3,7 @@
 use std::hash::{Hash, Hasher};
 
 use crate::Refusal;
+use crate::abi::check_archive;
 use crate::ffi;
 use crate::refusal::check;
 
@@ -125,6 +126,7 @@ impl Request {
     /// assert_eq!(Request::from_slip(&[0x08, 0x80, 0x7a, 0x21]), Err(Refusal::PaddingSet));
     /// ```
     pub fn from_slip(bytes: &[u8]) -> Result<Request, Refusal> {
+        check_archive();
         // SAFETY: pointer and length are those of one slice, whose pointer is never null.
         let received = unsafe { ffi::cementoad_read_slip(bytes.as_ptr(), bytes.len()) };
         check(received.refusal)?;
@@ -160,6 +162,7 @@ impl Request {
     /// assert_eq!(Request::new().synthetic(1500).write_slip(&mut buffer), Err(Refusal::BufferShort));
     /// ```
     pub fn write_slip(&self, buffer: &mut [u8]) -> Result<usize, Refusal> {
+        check_archive();
         // SAFETY: pointer and size are those of one slice that is lent for writing, whose pointer is never null.
         let written = unsafe { ffi::cementoad_write_slip(self.raw, buffer.as_mut_ptr(), buffer.len()) };
         check(written.refusal)?;
@@ -168,6 +171,7 @@ impl Request {
 
     /// How many bytes a slip of this request has.
     pub fn slip_length(&self) -> usize {
+        check_archive();
         ffi::cementoad_slip_length(self.raw.word)
     }
 

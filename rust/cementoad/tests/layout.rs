@@ -22,7 +22,7 @@ use cementoad::ffi;
 #[derive(Clone, Copy)]
 struct Bytes<const N: usize>([u8; N]);
 
-type Record = Bytes<{ size_of::<ffi::Record>() }>;
+type Clock = Bytes<{ size_of::<ffi::Clock>() }>;
 type Request = Bytes<{ size_of::<ffi::Request>() }>;
 type Registers = Bytes<16>;
 
@@ -30,15 +30,15 @@ unsafe extern "C" {
     #[link_name = "cementoad_create"]
     fn raw_create(answer: *mut u8, word: u8, backstop: i64, now: i64) -> *mut u8;
     #[link_name = "cementoad_update"]
-    fn raw_update(answer: *mut u8, record: Record, request: Request, now: i64) -> *mut u8;
+    fn raw_update(answer: *mut u8, clock: Clock, request: Request, now: i64) -> *mut u8;
     #[link_name = "cementoad_get_details"]
-    fn raw_details(answer: *mut u8, record: Record, now: i64) -> *mut u8;
+    fn raw_details(answer: *mut u8, clock: Clock, now: i64) -> *mut u8;
     #[link_name = "cementoad_read_slip"]
     fn raw_read_slip(answer: *mut u8, bytes: *const u8, length: usize) -> *mut u8;
     #[link_name = "cementoad_read"]
-    fn raw_read(record: Record, now: i64) -> Registers;
+    fn raw_read(clock: Clock, now: i64) -> Registers;
     #[link_name = "cementoad_is_started"]
-    fn raw_started(record: Record) -> Registers;
+    fn raw_started(clock: Clock) -> u8;
     #[link_name = "cementoad_write_slip"]
     fn raw_write_slip(request: Request, buffer: *mut u8, size: usize) -> Registers;
 }
@@ -72,8 +72,8 @@ macro_rules! fields {
     }};
 }
 
-fn record_fields() -> Vec<Field> {
-    fields!(ffi::Record: backstop, line.reference, line.synthetic, line.rate, error, latest, generation, word, started)
+fn clock_fields() -> Vec<Field> {
+    fields!(ffi::Clock: line.reference, line.synthetic, line.rate, backstop, latest, error, generation, word, started)
 }
 
 fn request_fields() -> Vec<Field> {
@@ -100,13 +100,13 @@ impl Answer {
         number(&self.at(place))
     }
 
-    /// The record on the front of the answer, with its padding zero.
-    fn record(&self) -> Record {
-        let mut record = Bytes([0; _]);
-        for (_, place) in record_fields() {
-            record.0[place.clone()].copy_from_slice(&self.at(place));
+    /// The clock on the front of the answer, with its padding zero.
+    fn clock(&self) -> Clock {
+        let mut clock = Bytes([0; _]);
+        for (_, place) in clock_fields() {
+            clock.0[place.clone()].copy_from_slice(&self.at(place));
         }
-        record
+        clock
     }
 }
 
@@ -150,13 +150,13 @@ fn create(word: u8, backstop: u64, now: u64) -> Answer {
     written(size_of::<ffi::Created>(), call)
 }
 
-fn update(record: Record, request: Request, now: u64) -> Answer {
-    let call = |answer| unsafe { raw_update(answer, record, request, now as i64) };
+fn update(clock: Clock, request: Request, now: u64) -> Answer {
+    let call = |answer| unsafe { raw_update(answer, clock, request, now as i64) };
     written(size_of::<ffi::Updated>(), call)
 }
 
-fn details(record: Record, now: u64) -> Answer {
-    let call = |answer| unsafe { raw_details(answer, record, now as i64) };
+fn details(clock: Clock, now: u64) -> Answer {
+    let call = |answer| unsafe { raw_details(answer, clock, now as i64) };
     written(size_of::<ffi::Detailed>(), call)
 }
 
@@ -169,12 +169,12 @@ fn registers(Bytes(bytes): Registers) -> Answer {
     Answer(bytes.map(Some).to_vec())
 }
 
-fn read(record: Record, now: u64) -> Answer {
-    registers(unsafe { raw_read(record, now as i64) })
+fn read(clock: Clock, now: u64) -> Answer {
+    registers(unsafe { raw_read(clock, now as i64) })
 }
 
-fn started(record: Record) -> Answer {
-    registers(unsafe { raw_started(record) })
+fn started(clock: Clock) -> u8 {
+    unsafe { raw_started(clock) }
 }
 
 fn write_slip(request: Request, buffer: &mut [u8]) -> Answer {
@@ -198,24 +198,24 @@ fn request(arguments: &[(&str, u64)]) -> Request {
     request
 }
 
-/// The record with another number in a field.
-fn with(mut record: Record, name: &str, number: u64) -> Record {
-    put(&mut record.0[place(&record_fields(), name)], number);
-    record
+/// The clock with another number in a field.
+fn with(mut clock: Clock, name: &str, number: u64) -> Clock {
+    put(&mut clock.0[place(&clock_fields(), name)], number);
+    clock
 }
 
 /// A plain clock that is started with value HUGE, all arguments flagged.
-fn running(backstop: u64, reference: u64, rate: u64, error: u64, latest: u64) -> Record {
+fn running(backstop: u64, reference: u64, rate: u64, error: u64, latest: u64) -> Clock {
     let arguments = [
         ("synthetic", HUGE),
         ("reference", reference),
         ("rate", rate),
         ("error", error),
     ];
-    update(create(0, backstop, 0).record(), request(&arguments), latest).record()
+    update(create(0, backstop, 0).clock(), request(&arguments), latest).clock()
 }
 
-fn usual() -> Record {
+fn usual() -> Clock {
     running(SMALL, SMALL, RATE, ERROR, SMALL)
 }
 
@@ -266,7 +266,7 @@ impl Seen {
 #[test]
 fn created() {
     let mut seen = Seen::new(fields!(ffi::Created:
-        clock.backstop, clock.line.reference, clock.line.synthetic, clock.line.rate, clock.error, clock.latest,
+        clock.line.reference, clock.line.synthetic, clock.line.rate, clock.backstop, clock.latest, clock.error,
         clock.generation, clock.word, clock.started, refusal,
     ));
     let plain = create(0, SMALL, SMALL);
@@ -292,10 +292,10 @@ fn created() {
 #[test]
 fn updated() {
     let mut seen = Seen::new(fields!(ffi::Updated:
-        clock.backstop, clock.line.reference, clock.line.synthetic, clock.line.rate, clock.error, clock.latest,
+        clock.line.reference, clock.line.synthetic, clock.line.rate, clock.backstop, clock.latest, clock.error,
         clock.generation, clock.word, clock.started, refusal,
     ));
-    let new = |word| create(word, SMALL, 0).record();
+    let new = |word| create(word, SMALL, 0).clock();
     let set = |arguments: &[(&str, u64)]| {
         let arguments = [&[("synthetic", HUGE)], arguments].concat();
         update(new(0), request(&arguments), SMALL)
@@ -320,11 +320,11 @@ fn updated() {
         (counted(0xffff_fffe), 0xffff_ffff),
         (counted(0xffff_ffff), 0),
     );
-    let kept = |backstop| update(create(0, backstop, 0).record(), request(&[("synthetic", HUGE)]), 0);
+    let kept = |backstop| update(create(0, backstop, 0).clock(), request(&[("synthetic", HUGE)]), 0);
     seen.varies("clock.backstop", (kept(SMALL), SMALL), (kept(LARGE), LARGE));
     let kind = |word| update(new(word), request(&[("synthetic", HUGE)]), 0);
     seen.varies("clock.word", (kind(0), 0), (kind(128), 128));
-    // A word with a stray bit makes either record none of a clock, which comes back as it is.
+    // A word with a stray bit makes neither of them a clock, and each comes back as it is.
     let refused = |started| update(with(with(usual(), "word", 1), "started", started), request(&[]), SMALL);
     seen.varies("clock.started", (refused(0), 0), (refused(1), 1));
     let at = |now| update(usual(), request(&[]), now);
@@ -333,18 +333,18 @@ fn updated() {
 }
 
 #[test]
-fn records_come_back_byte_by_byte() {
-    let record: Record = Bytes(from_fn(|i| 0x80 + i as u8));
-    let places: Vec<usize> = record_fields().into_iter().flat_map(|field| field.1).collect();
+fn what_is_no_clock_comes_back_byte_by_byte() {
+    let clock: Clock = Bytes(from_fn(|i| 0x80 + i as u8));
+    let places: Vec<usize> = clock_fields().into_iter().flat_map(|field| field.1).collect();
     for flipped in &places {
-        let mut record = record;
-        record.0[*flipped] ^= 0xff;
-        let answer = update(record, request(&[]), 0);
+        let mut clock = clock;
+        clock.0[*flipped] ^= 0xff;
+        let answer = update(clock, request(&[]), 0);
         assert_eq!(answer.number(place(&fields!(ffi::Updated: refusal), "refusal")), 255);
         for i in &places {
             assert_eq!(
                 answer.at(*i..i + 1),
-                [record.0[*i]],
+                [clock.0[*i]],
                 "byte {i} with byte {flipped} flipped"
             );
         }
@@ -374,7 +374,7 @@ fn detailed() {
         refusal, details.started, details.line.reference, details.line.synthetic, details.line.rate, details.error,
         details.generation, details.latest, details.word, details.backstop, details.now,
     ));
-    let tell = |record| details(record, HUGE);
+    let tell = |clock| details(clock, HUGE);
     let usual_details = || tell(usual());
     let placed = tell(running(SMALL, LARGE, RATE, ERROR, SMALL));
     seen.varies("details.line.reference", (usual_details(), SMALL), (placed, LARGE));
@@ -397,8 +397,8 @@ fn detailed() {
     let kind = |word| tell(with(usual(), "word", word));
     seen.varies("details.word", (kind(0), 0), (kind(128), 128));
     // A clock that is set to 0 at 0 differs from a new one in its start alone, once its generation has come round to 1.
-    let new = create(0, 0, 0).record();
-    let set = update(new, request(&[("synthetic", 0)]), 0).record();
+    let new = create(0, 0, 0).clock();
+    let set = update(new, request(&[("synthetic", 0)]), 0).clock();
     seen.varies("details.started", (tell(new), 0), (tell(with(set, "generation", 1)), 1));
     seen.varies("details.now", (usual_details(), HUGE), (details(usual(), LARGE), LARGE));
     seen.varies("refusal", (details(usual(), u64::MAX), 1), (details(usual(), 0), 2));
@@ -456,19 +456,20 @@ fn received() {
 #[test]
 fn reading() {
     let mut seen = Seen::new(fields!(ffi::Reading: refusal, value));
-    let backstop = |backstop| read(create(0, backstop, 0).record(), 0);
+    let backstop = |backstop| read(create(0, backstop, 0).clock(), 0);
     seen.varies("value", (backstop(SMALL), SMALL), (backstop(LARGE), LARGE));
     seen.varies("refusal", (read(usual(), u64::MAX), 1), (read(usual(), 0), 2));
     seen.all();
 }
 
+/// No other byte than 0 and 1 may come where a `bool` is declared.
 #[test]
 fn told_started() {
-    let mut seen = Seen::new(fields!(ffi::Started: refusal, started));
-    let new = |word| create(word, 0, 0).record();
-    seen.varies("started", (started(new(0)), 0), (started(new(32)), 1));
-    seen.varies("refusal", (started(new(0)), 0), (started(with(new(0), "word", 1)), 255));
-    seen.all();
+    let new = |word| create(word, 0, 0).clock();
+    assert_eq!(started(new(0)), 0);
+    assert_eq!(started(new(32)), 1);
+    assert_eq!(started(with(new(32), "word", 33)), 0);
+    assert_eq!(started(with(new(32), "started", 2)), 0);
 }
 
 #[test]

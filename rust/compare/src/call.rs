@@ -2,7 +2,7 @@
 
 use std::fmt;
 
-use crate::side::{Ask, Asking, Bytes, Record, Request};
+use crate::side::{Ask, Asking, Bytes, Clock, Request};
 
 #[derive(Clone, Debug, PartialEq, Eq)]
 pub enum Call {
@@ -22,14 +22,13 @@ pub enum Call {
         now: i64,
     },
     Started,
-    /// Not a call: the clock goes on with the generation that very many replaced lines would have left it. It comes only where they
-    /// could have.
+    /// Not a call: a started clock goes on with the generation that very many replaced lines would have left it.
     Age {
         generation: u32,
     },
-    /// All four kinds of calls on a record made up by hand. The clock itself goes on.
+    /// All four kinds of calls on a clock made up by hand, which may be none. The list's own clock goes on.
     MadeUp {
-        record: Record,
+        clock: Clock,
         request: Request,
         now: i64,
     },
@@ -46,14 +45,14 @@ pub enum Call {
 }
 
 impl Call {
-    /// What is asked on the clock's record, none where it is not one question alone.
-    pub fn ask(&self, record: Record) -> Option<Ask<'_>> {
+    /// What is asked on the clock, none where it is not one question alone.
+    pub fn ask(&self, clock: Clock) -> Option<Ask<'_>> {
         match self {
             &Call::Create { word, backstop, now } => Some(Ask::Create { word, backstop, now }),
-            &Call::Read { now } => Some(Ask::Read { record, now }),
-            &Call::Update { request, now } => Some(Ask::Update { record, request, now }),
-            &Call::Details { now } => Some(Ask::Details { record, now }),
-            Call::Started => Some(Ask::Started { record }),
+            &Call::Read { now } => Some(Ask::Read { clock, now }),
+            &Call::Update { request, now } => Some(Ask::Update { clock, request, now }),
+            &Call::Details { now } => Some(Ask::Details { clock, now }),
+            Call::Started => Some(Ask::Started { clock }),
             Call::ReadSlip { bytes } => Some(Ask::ReadSlip { bytes }),
             &Call::WriteSlip { request, ref buffer } => Some(Ask::WriteSlip { request, buffer }),
             &Call::SlipLength { word } => Some(Ask::SlipLength { word }),
@@ -77,7 +76,9 @@ impl fmt::Display for Call {
             Call::Details { now } => write!(f, "details at {now}"),
             Call::Started => write!(f, "started"),
             Call::Age { generation } => write!(f, "(the generation becomes {generation})"),
-            Call::MadeUp { record, request, now } => write!(f, "at {now} on a record of {record}: {}", Asking(request)),
+            Call::MadeUp { clock, request, now } => {
+                write!(f, "at {now} on a clock made up of {clock}: {}", Asking(request))
+            }
             Call::ReadSlip { bytes } => write!(f, "read slip {}", Bytes(bytes)),
             Call::WriteSlip { request, buffer } => {
                 write!(

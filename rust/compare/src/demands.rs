@@ -3,7 +3,7 @@
 use second::{CONTINUOUS, Ideal, MONOTONIC};
 
 use crate::second_side::value;
-use crate::side::{Record, Request};
+use crate::side::{Clock, Request};
 
 /// What is remembered of one clock's history.
 #[derive(Clone, Copy, Debug, Default)]
@@ -55,12 +55,12 @@ impl Witness {
         }
     }
 
-    /// An update that is not refused, with the records before and after it. The ideal line hears of no other call.
-    pub fn updated(&mut self, request: &Request, now: i64, before: &Record, after: &Record) -> Result<(), String> {
+    /// An update that is not refused, with the clock before and after it. The ideal line hears of no other call.
+    pub fn updated(&mut self, request: &Request, now: i64, before: &Clock, after: &Clock) -> Result<(), String> {
         self.goes_to(now);
         self.ideal.update(request, now, true);
         let running = self.word & CONTINUOUS != 0 && before.started == 1;
-        if running && value(before, now) != value(after, now) {
+        if running && value(&before.line, now) != value(&after.line, now) {
             return Err(format!(
                 "demand 2: the continuous clock's lines {} and {} part at {now}",
                 before.line, after.line
@@ -70,10 +70,10 @@ impl Witness {
     }
 
     /// There is an ideal line exactly when the clock is started, so that demand 3 is never passed over.
-    pub fn runs_beside(&self, record: &Record) -> Result<(), String> {
-        if self.ideal.line.is_some() != (record.started == 1) {
+    pub fn runs_beside(&self, clock: &Clock) -> Result<(), String> {
+        if self.ideal.line.is_some() != (clock.started == 1) {
             return Err(format!(
-                "demand 3: the ideal line is {:?} beside a clock of {record}",
+                "demand 3: the ideal line is {:?} beside a clock of {clock}",
                 self.ideal.line
             ));
         }

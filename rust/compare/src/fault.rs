@@ -4,14 +4,14 @@ use std::fmt;
 
 use second::hyphenated;
 
-use crate::given::Part;
+use crate::is_clock::Part;
 
 #[derive(Clone, Copy, Debug, PartialEq, Eq)]
 pub enum Fault {
     /// A rule of the second program is wrong, or none.
     Rule(second::Fault),
-    /// One part of the test of records is left out. The papers know no such test; who hands records in has it.
-    RecordTestLeftOut(Part),
+    /// One part of the boundary's test is left out. The papers know no such test, and neither does the second program.
+    ClockTestLeftOut(Part),
 }
 
 impl Fault {
@@ -20,7 +20,7 @@ impl Fault {
     /// Every fault but none.
     pub fn all() -> Vec<Fault> {
         let rules = second::Fault::all().into_iter().map(Fault::Rule);
-        rules.chain(Part::ALL.map(Fault::RecordTestLeftOut)).collect()
+        rules.chain(Part::ALL.map(Fault::ClockTestLeftOut)).collect()
     }
 
     /// The fault of this name, as it is displayed.
@@ -37,12 +37,12 @@ impl From<second::Fault> for Fault {
     }
 }
 
-/// As `left-out-update-12` or `record-test-left-out-first-line`.
+/// As `left-out-update-12` or `clock-test-left-out-word-known`.
 impl fmt::Display for Fault {
     fn fmt(&self, f: &mut fmt::Formatter) -> fmt::Result {
         match self {
             Fault::Rule(rule) => rule.fmt(f),
-            Fault::RecordTestLeftOut(_) => f.write_str(&hyphenated(self)),
+            Fault::ClockTestLeftOut(_) => f.write_str(&hyphenated(self)),
         }
     }
 }

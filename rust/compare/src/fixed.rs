@@ -1,7 +1,7 @@
 //! Lists written from 01: each boundary of each refusal just inside and just outside, the orders of checks that can be seen, and the
-//! worked cases. Beside each call stands its refusal's number, 0 where it is accepted.
+//! worked cases; and clocks made up by hand. Beside each call stands its refusal's number, 0 where it is accepted.
 
-mod records;
+mod made_up;
 
 use second::{AUTO_START, CONTINUOUS, END, ERROR, LONGEST_SLIP, MONOTONIC, RATE, REFERENCE, SYNTHETIC, VERSION_2};
 
@@ -123,7 +123,7 @@ pub fn fixed_lists() -> Vec<FixedList> {
     lists.extend(slips_read());
     lists.extend(slips_written());
     lists.extend(slip_lengths());
-    lists.extend(records::records());
+    lists.extend(made_up::made_up());
     lists
 }
 
@@ -316,7 +316,7 @@ fn creations() -> Vec<FixedList> {
                 (create(1, 0, 0), 3),
                 (read(0), 255),
                 (details(0), 255),
-                (Call::Started, 255),
+                (Call::Started, 0),
                 (update(set(1), 0), 255),
             ],
         ),
@@ -339,7 +339,7 @@ fn readings() -> Vec<FixedList> {
         list(
             "details 1",
             &[
-                (create(PLAIN, 7, 0), 0),
+                (create(MONOTONIC, 7, 0), 0),
                 (details(-1), 1),
                 (details(0), 0),
                 (details(LAST), 0),

@@ -6,10 +6,10 @@ use second::{
 
 use crate::call::Call;
 use crate::edges::at_edge;
-use crate::given::Part;
+use crate::is_clock::Part;
 use crate::rng::Rng;
 use crate::second_side::value;
-use crate::side::{Line, Record, Request};
+use crate::side::{Clock, Line, Request};
 
 const LAST: i64 = END as i64;
 
@@ -81,32 +81,32 @@ pub fn error(rng: &mut Rng) -> u64 {
 }
 
 /// The next call of a list.
-pub fn call(rng: &mut Rng, record: &Record) -> Call {
+pub fn call(rng: &mut Rng, clock: &Clock) -> Call {
     match rng.below(100) {
         0..=27 => slip_call(rng),
         28..=49 => Call::Read {
-            now: time(rng, record, 50),
+            now: time(rng, clock, 50),
         },
         50..=55 => Call::Details {
-            now: time(rng, record, 50),
+            now: time(rng, clock, 50),
         },
         56..=57 => Call::Started,
         58 => Call::Age {
             generation: u32::MAX - rng.below(3) as u32,
         },
         59..=63 => {
-            let record = made_up(rng, record);
-            let now = time(rng, &record, 50);
+            let clock = made_up(rng, clock);
+            let now = time(rng, &clock, 50);
             Call::MadeUp {
-                record,
-                request: request(rng, &record, now),
+                clock,
+                request: request(rng, &clock, now),
                 now,
             }
         }
         _ => {
-            let now = time(rng, record, 20);
+            let now = time(rng, clock, 20);
             Call::Update {
-                request: request(rng, record, now),
+                request: request(rng, clock, now),
                 now,
             }
         }
@@ -136,8 +136,8 @@ pub fn creation(rng: &mut Rng) -> Call {
 }
 
 /// A time for a call. So many in a hundred go far ahead, after which the clock's life is soon over.
-fn time(rng: &mut Rng, record: &Record, far: u64) -> i64 {
-    let latest = record.latest;
+fn time(rng: &mut Rng, clock: &Clock, far: u64) -> i64 {
+    let latest = clock.latest;
     match rng.below(20) {
         0..=5 => plus(latest, rng.below(4) as i64),
         6..=12 => plus(latest, rng.up_to_bits(36)),
@@ -146,44 +146,44 @@ fn time(rng: &mut Rng, record: &Record, far: u64) -> i64 {
         16 => plus(latest, 1),
         17 if rng.percent(far) => edge(rng),
         18 if rng.percent(far) => plus(latest, rng.up_to_bits(61)),
-        _ if rng.percent(far) => plus(time_of_end(record), rng.nudge()),
+        _ if rng.percent(far) => plus(time_of_end(clock), rng.nudge()),
         _ => plus(latest, rng.up_to_bits(20)),
     }
 }
 
 /// The last time at which the clock's value is not above END, or near it.
-fn time_of_end(record: &Record) -> i64 {
+fn time_of_end(clock: &Clock) -> i64 {
     let Line {
         reference,
         synthetic,
         rate,
-    } = record.line;
+    } = clock.line;
     let distance = (END - i128::from(synthetic)) * MILLION;
     clamp(i128::from(reference) + distance / (MILLION + i128::from(rate)).max(1))
 }
 
 /// An update's word and arguments, for the clock at that time. Arguments that are not flagged are anything.
-fn request(rng: &mut Rng, record: &Record, now: i64) -> Request {
+fn request(rng: &mut Rng, clock: &Clock, now: i64) -> Request {
     match rng.below(30) {
         0 => {
             return Request {
                 word: VERSION_2 | REFERENCE | ERROR,
-                ..arguments(rng, record, REFERENCE | ERROR, now)
+                ..arguments(rng, clock, REFERENCE | ERROR, now)
             };
         }
-        1 => return set_near_reading(rng, record, now),
+        1 => return set_near_reading(rng, clock, now),
         _ => {}
     }
-    let flags = flags(rng, record);
+    let flags = flags(rng, clock);
     Request {
         word: word(rng, flags),
-        ..arguments(rng, record, flags, now)
+        ..arguments(rng, clock, flags, now)
     }
 }
 
 /// 01, case 14: the present reading, or one less.
-fn set_near_reading(rng: &mut Rng, record: &Record, now: i64) -> Request {
-    let reading = clamp(value(record, now));
+fn set_near_reading(rng: &mut Rng, clock: &Clock, now: i64) -> Request {
+    let reading = clamp(value(&clock.line, now));
     Request {
         word: VERSION_2 | SYNTHETIC,
         synthetic: plus(reading, rng.pick(&[0, -1])),
@@ -192,16 +192,16 @@ fn set_near_reading(rng: &mut Rng, record: &Record, now: i64) -> Request {
 }
 
 /// What is flagged: every combination, but more often one that the clock might accept.
-fn flags(rng: &mut Rng, record: &Record) -> u64 {
+fn flags(rng: &mut Rng, clock: &Clock) -> u64 {
     let any = rng.below(16) << 54;
     let error = rng.pick(&[0, ERROR]);
     if rng.percent(30) {
         any
-    } else if record.started == 0 {
+    } else if clock.started == 0 {
         any | SYNTHETIC
-    } else if record.word & CONTINUOUS != 0 {
+    } else if clock.word & CONTINUOUS != 0 {
         rng.pick(&[RATE, RATE, RATE | ERROR, ERROR])
-    } else if record.word & MONOTONIC != 0 {
+    } else if clock.word & MONOTONIC != 0 {
         rng.pick(&[RATE, SYNTHETIC, 0]) | rng.pick(&[0, REFERENCE]) | error
     } else {
         any | rng.pick(&[RATE, SYNTHETIC])
@@ -220,7 +220,7 @@ fn word(rng: &mut Rng, flags: u64) -> u64 {
     }
 }
 
-fn arguments(rng: &mut Rng, record: &Record, flags: u64, now: i64) -> Request {
+fn arguments(rng: &mut Rng, clock: &Clock, flags: u64, now: i64) -> Request {
     let reference = if flags & REFERENCE != 0 || rng.percent(50) {
         reference(rng, now)
     } else {
@@ -236,8 +236,8 @@ fn arguments(rng: &mut Rng, record: &Record, flags: u64, now: i64) -> Request {
     };
     request.synthetic = if flags & SYNTHETIC != 0 || rng.percent(50) {
         let point = if flags & REFERENCE != 0 { reference } else { now };
-        let rate = if flags & RATE != 0 { rate } else { record.line.rate };
-        synthetic(rng, record, now, point, rate)
+        let rate = if flags & RATE != 0 { rate } else { clock.line.rate };
+        synthetic(rng, clock, now, point, rate)
     } else {
         edge(rng)
     };
@@ -256,16 +256,16 @@ fn reference(rng: &mut Rng, now: i64) -> i64 {
 }
 
 /// A value that makes the new line come, at now, near to what the checks look at.
-fn synthetic(rng: &mut Rng, record: &Record, now: i64, point: i64, rate: i32) -> i64 {
-    let present = if record.started == 0 {
-        record.backstop.into()
+fn synthetic(rng: &mut Rng, clock: &Clock, now: i64, point: i64, rate: i32) -> i64 {
+    let present = if clock.started == 0 {
+        clock.backstop.into()
     } else {
-        value(record, now)
+        value(&clock.line, now)
     };
     let aim = match rng.below(20) {
         0 => return edge(rng),
         1..=2 => return inside(rng),
-        3..=6 => i128::from(record.backstop) + i128::from(rng.nudge()),
+        3..=6 => i128::from(clock.backstop) + i128::from(rng.nudge()),
         7..=10 => present + i128::from(rng.nudge()),
         11 => END + i128::from(rng.nudge()),
         12 => END - i128::from(rng.up_to_bits(40)),
@@ -275,50 +275,51 @@ fn synthetic(rng: &mut Rng, record: &Record, now: i64, point: i64, rate: i32) ->
     clamp(aim - Right.distance(i128::from(now) - i128::from(point), rate.into()))
 }
 
-/// A record made up by hand: at an edge of the test of records, or a real clock's or any numbers with some fields anything.
-fn made_up(rng: &mut Rng, real: &Record) -> Record {
+/// A clock made up by hand: at an edge of the boundary's test; a real one, or one at an edge, with some fields
+/// anything; or all of it anything.
+fn made_up(rng: &mut Rng, real: &Clock) -> Clock {
     let part = rng.pick(&Part::ALL);
     match rng.below(10) {
         0..=5 => at_edge(rng, part),
         6..=7 => altered(rng, *real),
         8 => {
-            let record = at_edge(rng, part);
-            altered(rng, record)
+            let clock = at_edge(rng, part);
+            altered(rng, clock)
         }
         _ => anything(rng),
     }
 }
 
-/// The record with some of its fields anything.
-fn altered(rng: &mut Rng, mut record: Record) -> Record {
+/// The clock with some of its fields anything.
+fn altered(rng: &mut Rng, mut clock: Clock) -> Clock {
     let other = anything(rng);
     for _ in 0..rng.below(4) {
         match rng.below(9) {
-            0 => record.backstop = other.backstop,
-            1 => record.line.reference = other.line.reference,
-            2 => record.line.synthetic = other.line.synthetic,
-            3 => record.line.rate = other.line.rate,
-            4 => record.error = other.error,
-            5 => record.latest = other.latest,
-            6 => record.generation = other.generation,
-            7 => record.word = other.word,
-            _ => record.started = other.started,
+            0 => clock.backstop = other.backstop,
+            1 => clock.line.reference = other.line.reference,
+            2 => clock.line.synthetic = other.line.synthetic,
+            3 => clock.line.rate = other.line.rate,
+            4 => clock.error = other.error,
+            5 => clock.latest = other.latest,
+            6 => clock.generation = other.generation,
+            7 => clock.word = other.word,
+            _ => clock.started = other.started,
         }
     }
-    record
+    clock
 }
 
-fn anything(rng: &mut Rng) -> Record {
+fn anything(rng: &mut Rng) -> Clock {
     let number = |rng: &mut Rng| if rng.percent(50) { edge(rng) } else { inside(rng) };
-    Record {
-        backstop: number(rng),
+    Clock {
         line: Line {
             reference: number(rng),
             synthetic: number(rng),
             rate: rate(rng),
         },
-        error: error(rng),
+        backstop: number(rng),
         latest: number(rng),
+        error: error(rng),
         generation: rng.pick(&[0, 1, 2, u32::MAX]),
         word: if rng.percent(80) {
             rng.below(8) as u8 * 32

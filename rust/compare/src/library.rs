@@ -2,9 +2,21 @@
 
 use cementoad::ffi;
 
-use crate::side::{Answer, Ask, Details, Line, Record, Request, Side};
+use crate::side::{Answer, Ask, Clock, Details, Line, Request, Side};
 
-pub struct Library;
+/// Made by [`Library::new`], so that the archive is one of the version that `ffi` declares.
+pub struct Library(());
+
+impl Library {
+    pub fn new() -> Self {
+        assert_eq!(
+            ffi::cementoad_abi(),
+            ffi::ABI,
+            "archive and crate are of different versions"
+        );
+        Library(())
+    }
+}
 
 impl Side for Library {
     fn answer(&self, ask: &Ask) -> Answer {
@@ -13,37 +25,33 @@ impl Side for Library {
                 let created = ffi::cementoad_create(word, backstop, now);
                 Answer::Clock {
                     refusal: created.refusal,
-                    record: record_from(created.clock),
+                    clock: clock_from(created.clock),
                 }
             }
-            Ask::Read { record, now } => {
-                let reading = ffi::cementoad_read(record_to(record), now);
+            Ask::Read { clock, now } => {
+                let reading = ffi::cementoad_read(clock_to(clock), now);
                 Answer::Reading {
                     refusal: reading.refusal,
                     value: reading.value,
                 }
             }
-            Ask::Update { record, request, now } => {
-                let updated = ffi::cementoad_update(record_to(record), request_to(request), now);
+            Ask::Update { clock, request, now } => {
+                let updated = ffi::cementoad_update(clock_to(clock), request_to(request), now);
                 Answer::Clock {
                     refusal: updated.refusal,
-                    record: record_from(updated.clock),
+                    clock: clock_from(updated.clock),
                 }
             }
-            Ask::Details { record, now } => {
-                let detailed = ffi::cementoad_get_details(record_to(record), now);
+            Ask::Details { clock, now } => {
+                let detailed = ffi::cementoad_get_details(clock_to(clock), now);
                 Answer::Details {
                     refusal: detailed.refusal,
                     details: details_from(detailed.details),
                 }
             }
-            Ask::Started { record } => {
-                let started = ffi::cementoad_is_started(record_to(record));
-                Answer::Started {
-                    refusal: started.refusal,
-                    started: started.started,
-                }
-            }
+            Ask::Started { clock } => Answer::Started {
+                started: ffi::cementoad_is_started(clock_to(clock)),
+            },
             Ask::ReadSlip { bytes } => {
                 // SAFETY: the pointer is to that many bytes.
                 let received = unsafe { ffi::cementoad_read_slip(bytes.as_ptr(), bytes.len()) };
@@ -91,36 +99,36 @@ fn line_from(line: ffi::Line) -> Line {
     }
 }
 
-fn record_from(record: ffi::Record) -> Record {
-    Record {
-        backstop: record.backstop,
-        line: line_from(record.line),
-        error: record.error,
-        latest: record.latest,
-        generation: record.generation,
-        word: record.word,
-        started: record.started,
+fn clock_from(clock: ffi::Clock) -> Clock {
+    Clock {
+        line: line_from(clock.line),
+        backstop: clock.backstop,
+        latest: clock.latest,
+        error: clock.error,
+        generation: clock.generation,
+        word: clock.word,
+        started: clock.started,
     }
 }
 
-fn record_to(record: Record) -> ffi::Record {
+fn clock_to(clock: Clock) -> ffi::Clock {
     let Line {
         reference,
         synthetic,
         rate,
-    } = record.line;
-    ffi::Record {
-        backstop: record.backstop,
+    } = clock.line;
+    ffi::Clock {
         line: ffi::Line {
             reference,
             synthetic,
             rate,
         },
-        error: record.error,
-        latest: record.latest,
-        generation: record.generation,
-        word: record.word,
-        started: record.started,
+        backstop: clock.backstop,
+        latest: clock.latest,
+        error: clock.error,
+        generation: clock.generation,
+        word: clock.word,
+        started: clock.started,
     }
 }
 

@@ -2,11 +2,13 @@
 
 use std::fmt::Write;
 
+use second::{END, hyphenated};
+
 use crate::call::Call;
 use crate::demands::Witness;
-use crate::given::{CORNER, failing, given};
+use crate::is_clock::{failing, is_clock};
 use crate::second_side::NOT_A_CLOCK;
-use crate::side::{Answer, Ask, Details, Record, Request, Side};
+use crate::side::{Answer, Ask, Clock, Request, Side};
 use crate::tally::Tally;
 
 /// The two programs.
@@ -24,7 +26,7 @@ pub struct Run<'a> {
     sides: Sides<'a>,
     tally: &'a mut Tally,
     /// The clock as the call before left it; zeros where there is none.
-    pub record: Record,
+    pub clock: Clock,
     witness: Option<Witness>,
 }
 
@@ -33,7 +35,7 @@ impl<'a> Run<'a> {
         Run {
             sides,
             tally,
-            record: Record::default(),
+            clock: Clock::default(),
             witness: None,
         }
     }
@@ -43,7 +45,7 @@ impl<'a> Run<'a> {
         self.witness.is_some()
     }
 
-    /// Makes one call on both sides. The answer is its refusal's number, the last one's where it is several.
+    /// Makes one call on both sides. The answer is its refusal's number; of the calls on a made-up clock, 255 or 0.
     pub fn step(&mut self, call: &Call) -> Result<u8, Difference> {
         let refusal = self.make(call)?;
         self.check_clock()?;
@@ -51,46 +53,40 @@ impl<'a> Run<'a> {
     }
 
     fn make(&mut self, call: &Call) -> Result<u8, Difference> {
-        let record = self.record;
+        let clock = self.clock;
         match call {
             &Call::Create { word, backstop, now } => self.create(word, backstop, now),
             &Call::Read { now } => self.read(now),
             Call::Update { request, now } => self.update(request, *now),
-            &Call::Details { now } => self.same(&Ask::Details { record, now }).map(|answer| answer.refusal()),
-            Call::Started => self.same(&Ask::Started { record }).map(|answer| answer.refusal()),
+            &Call::Details { now } => self.same(&Ask::Details { clock, now }).map(|answer| answer.refusal()),
+            Call::Started => self.same(&Ask::Started { clock }).map(|answer| answer.refusal()),
             &Call::Age { generation } => {
-                let aged = Record { generation, ..record };
-                if given(&aged) {
-                    self.record = aged;
+                if clock.started == 1 {
+                    self.clock.generation = generation;
                 }
                 Ok(0)
             }
-            Call::MadeUp { record, request, now } => self.made_up(*record, request, *now),
+            &Call::MadeUp { clock, request, now } => self.made_up(clock, request, now),
             Call::ReadSlip { bytes } => self.read_slip(bytes),
             Call::WriteSlip { request, buffer } => self.write_slip(request, buffer),
             &Call::SlipLength { word } => self.same(&Ask::SlipLength { word }).map(|answer| answer.refusal()),
         }
     }
 
-    /// What holds of the clock behind every call: it is one that can be given, and the ideal line runs beside it once it is started. Its
-    /// record is the one that both sides answered.
+    /// What holds of the clock that both sides answered, behind every call: the ideal line runs beside it once it is
+    /// started, and it passes the boundary's test.
     fn check_clock(&self) -> Result<(), Difference> {
         let Some(witness) = &self.witness else {
             return Ok(());
         };
-        witness.runs_beside(&self.record)?;
-        only_given(&self.record)
-    }
-
-    fn ask(&mut self, ask: &Ask) -> (Answer, Answer) {
-        let library = self.sides.library.answer(ask);
-        self.tally.count(ask, library.refusal());
-        (library, self.sides.second.answer(ask))
+        witness.runs_beside(&self.clock)?;
+        check_is_clock(&self.clock)
     }
 
     /// The answer that both give.
     fn agreed(&mut self, ask: &Ask) -> Result<Answer, Difference> {
-        let (library, second) = self.ask(ask);
+        let (library, second) = (self.sides.library.answer(ask), self.sides.second.answer(ask));
+        self.tally.count(ask, library.refusal());
         if library != second {
             return Err(format!(
                 "the answers differ:\n      library: {library}\n      second:  {second}"
@@ -99,30 +95,27 @@ impl<'a> Run<'a> {
         Ok(library)
     }
 
-    /// The answer that both give. It is never 255 on a clock that creation and accepted updates gave.
+    /// The answer that both give. It is never 255 on a clock that creation gave.
     fn same(&mut self, ask: &Ask) -> Result<Answer, Difference> {
         let answer = self.agreed(ask)?;
         if answer.refusal() == NOT_A_CLOCK && self.has_clock() {
-            return Err(format!("255 on a clock of {}", self.record));
+            return Err(format!("255 on a clock of {}", self.clock));
         }
         Ok(answer)
     }
 
     fn create(&mut self, word: u8, backstop: i64, now: i64) -> Result<u8, Difference> {
         let answer = self.same(&Ask::Create { word, backstop, now })?;
-        let Answer::Clock { refusal, record } = answer else {
+        let Answer::Clock { refusal, clock } = answer else {
             return Err(other_kind(&answer));
         };
-        self.record = record;
+        self.clock = clock;
         self.witness = (refusal == 0).then(|| Witness::created(word, backstop, now));
         Ok(refusal)
     }
 
     fn read(&mut self, now: i64) -> Result<u8, Difference> {
-        let answer = self.same(&Ask::Read {
-            record: self.record,
-            now,
-        })?;
+        let answer = self.same(&Ask::Read { clock: self.clock, now })?;
         let Answer::Reading { refusal, value } = answer else {
             return Err(other_kind(&answer));
         };
@@ -134,67 +127,33 @@ impl<'a> Run<'a> {
     }
 
     fn update(&mut self, request: &Request, now: i64) -> Result<u8, Difference> {
-        let before = self.record;
+        let before = self.clock;
         let answer = self.same(&Ask::Update {
-            record: before,
+            clock: before,
             request: *request,
             now,
         })?;
-        let Answer::Clock { refusal, record } = answer else {
+        let Answer::Clock { refusal, clock } = answer else {
             return Err(other_kind(&answer));
         };
-        self.record = record;
+        self.clock = clock;
         match &mut self.witness {
-            Some(witness) if refusal == 0 => witness.updated(request, now, &before, &record)?,
+            Some(witness) if refusal == 0 => witness.updated(request, now, &before, &clock)?,
             _ => {}
         }
-        if refusal != 0 && record != before {
-            return Err(format!("demand 1: the refused update altered the clock to {record}"));
-        }
+        check_unaltered(&before, refusal, &clock)?;
         Ok(refusal)
     }
 
-    /// 255 is the answer to every call on a record exactly where creation and accepted updates can't give it.
-    fn made_up(&mut self, record: Record, request: &Request, now: i64) -> Result<u8, Difference> {
-        self.tally.count_record(&record);
-        if given(&record) {
-            self.made_up_clock(calls_on(record, request, now))
-        } else {
-            self.made_up_no_clock(&record, calls_on(record, request, now))
-        }
-    }
-
-    /// A record that can be given is a clock to both sides, and an accepted update leaves another.
-    fn made_up_clock(&mut self, asks: [Ask; 4]) -> Result<u8, Difference> {
-        for ask in asks {
-            let answer = self.agreed(&ask)?;
-            match answer {
-                _ if answer.refusal() == NOT_A_CLOCK => {
-                    return Err("a list leads to the record, but both answer 255".to_string());
-                }
-                Answer::Clock { refusal: 0, record } => only_given(&record)?,
-                _ => {}
-            }
-        }
-        Ok(0)
-    }
-
-    /// Any other record is handed back by both sides as it was. In the corner the library may take it for a clock; that is counted.
-    fn made_up_no_clock(&mut self, record: &Record, asks: [Ask; 4]) -> Result<u8, Difference> {
-        let in_corner = failing(record).eq([CORNER]);
-        let mut taken = false;
-        for ask in asks {
-            let expected = not_a_clock(&ask);
-            let (library, second) = self.ask(&ask);
-            if second != expected || library != expected && !in_corner {
-                return Err(format!(
-                    "no list leads to the record, but not both say so:\n      library: {library}\n      second:  {second}"
-                ));
-            }
-            taken |= library != expected;
-        }
-        self.tally.corner += u64::from(taken);
-        Ok(NOT_A_CLOCK)
+    /// All calls on what may be no clock.
+    fn made_up(&mut self, clock: Clock, request: Request, now: i64) -> Result<u8, Difference> {
+        self.tally.count_made_up(&clock);
+        let read = self.agreed(&Ask::Read { clock, now })?;
+        let updated = self.agreed(&Ask::Update { clock, request, now })?;
+        self.agreed(&Ask::Details { clock, now })?;
+        self.agreed(&Ask::Started { clock })?;
+        check_promises(&clock, &read, &updated).map_err(|told| format!("made up: {told}"))?;
+        Ok(if read.refusal() == NOT_A_CLOCK { NOT_A_CLOCK } else { 0 })
     }
 
     /// Demand 2: 'slips accepted are rewritten byte for byte'.
@@ -256,43 +215,36 @@ fn other_kind(answer: &Answer) -> Difference {
     format!("an answer of another kind: {answer}")
 }
 
-/// Creation and accepted updates give nothing but what they can give.
-fn only_given(record: &Record) -> Result<(), Difference> {
-    match failing(record).next() {
+/// What is promised of anything handed in for a clock: no reading is below its backstop or outside 0..END, a refused
+/// update hands it back unaltered, and where it passes the boundary's test, what an update leaves passes again.
+fn check_promises(clock: &Clock, read: &Answer, updated: &Answer) -> Result<(), Difference> {
+    match *read {
+        Answer::Reading { refusal: 0, value } if value < clock.backstop.max(0) || i128::from(value) > END => {
+            return Err(format!("the reading {value} is below the backstop or outside 0..END"));
+        }
+        _ => {}
+    }
+    match updated {
+        Answer::Clock { refusal, clock: after } => {
+            check_unaltered(clock, *refusal, after)?;
+            if is_clock(clock) { check_is_clock(after) } else { Ok(()) }
+        }
+        _ => Err(other_kind(updated)),
+    }
+}
+
+fn check_is_clock(clock: &Clock) -> Result<(), Difference> {
+    match failing(clock).next() {
         None => Ok(()),
-        Some(part) => Err(format!("no list leads to {record}, by {}", second::hyphenated(&part))),
+        Some(part) => Err(format!("no clock, by {}: {clock}", hyphenated(&part))),
     }
 }
 
-/// The four calls on a record.
-fn calls_on(record: Record, request: &Request, now: i64) -> [Ask<'static>; 4] {
-    [
-        Ask::Read { record, now },
-        Ask::Update {
-            record,
-            request: *request,
-            now,
-        },
-        Ask::Details { record, now },
-        Ask::Started { record },
-    ]
-}
-
-/// The answer where the record is not a clock: zeros, and the record unaltered.
-fn not_a_clock(ask: &Ask) -> Answer {
-    let refusal = NOT_A_CLOCK;
-    match *ask {
-        Ask::Update { record, .. } => Answer::Clock { refusal, record },
-        Ask::Details { .. } => Answer::Details {
-            refusal,
-            details: Details::default(),
-        },
-        Ask::Started { .. } => Answer::Started {
-            refusal,
-            started: false,
-        },
-        _ => Answer::Reading { refusal, value: 0 },
+fn check_unaltered(before: &Clock, refusal: u8, after: &Clock) -> Result<(), Difference> {
+    if refusal != 0 && after != before {
+        return Err(format!("demand 1: the refused update altered the clock to {after}"));
     }
+    Ok(())
 }
 
 /// The request with its unflagged arguments 0.
@@ -331,7 +283,7 @@ pub fn told(sides: Sides, calls: &[Call]) -> String {
         let outcome = run.step(call);
         let _ = writeln!(text, "{:3}. {call}", at + 1);
         match outcome {
-            Ok(0) => writeln!(text, "      both accept; the clock: {}", run.record),
+            Ok(0) => writeln!(text, "      both accept; the clock: {}", run.clock),
             Ok(refusal) => writeln!(text, "      both refuse with {refusal}"),
             Err(difference) => {
                 let _ = writeln!(text, "      {difference}");

@@ -92,7 +92,7 @@ fn make_list(sides: Sides, seed: u64, number: u64, tally: &mut Tally) -> Option<
         rng.below(3)
     };
     for _ in 0..length {
-        let next = call(&mut rng, &run.record);
+        let next = call(&mut rng, &run.clock);
         list.push(next.clone());
         if run.step(&next).is_err() {
             return Some(list);
@@ -101,7 +101,7 @@ fn make_list(sides: Sides, seed: u64, number: u64, tally: &mut Tally) -> Option<
     None
 }
 
-/// Runs the fixed lists, whose refusals are known from the paper.
+/// Runs the fixed lists, whose refusals are known from the paper, or from the boundary's test.
 fn search_fixed(sides: Sides, tally: &mut Tally) -> Option<Finding> {
     for list in fixed_lists() {
         let calls: Vec<Call> = list.steps.iter().map(|(call, _)| call.clone()).collect();
@@ -111,7 +111,7 @@ fn search_fixed(sides: Sides, tally: &mut Tally) -> Option<Finding> {
                 Err(_) => return Some(shrunk(sides, list.name.to_string(), calls, "")),
                 Ok(refusal) if refusal != *expected => {
                     let calls = calls[..=at].to_vec();
-                    let told = format!("{}      but the paper says {expected}\n", told(sides, &calls));
+                    let told = format!("{}      but it should be {expected}\n", told(sides, &calls));
                     return Some(Finding {
                         name: list.name.to_string(),
                         calls,

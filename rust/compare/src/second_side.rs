@@ -1,12 +1,12 @@
-//! The second program's side: its clocks behind records of the boundary's widths.
+//! The second program's side: its clocks in the boundary's widths, behind the boundary's own test.
 
-use second::{Clock, Faulty, Right, Rules, SlipRules};
+use second::{Faulty, Right, Rules, SlipRules};
 
 use crate::fault::Fault;
-use crate::given::{Part, failing};
-use crate::side::{Answer, Ask, Details, Line, Record, Side};
+use crate::is_clock::{Part, failing};
+use crate::side::{Answer, Ask, Clock, Details, Line, Side};
 
-/// The boundary's own number: the record is none that creation and accepted updates can give.
+/// The boundary's own number, of what fails its test.
 pub const NOT_A_CLOCK: u8 = 255;
 
 /// The second program, right or with one thing wrong.
@@ -20,7 +20,7 @@ pub fn second_side(fault: impl Into<Fault>) -> Box<dyn Side> {
             rules: Faulty::new(rule),
             left_out: None,
         }),
-        Fault::RecordTestLeftOut(part) => Box::new(Second {
+        Fault::ClockTestLeftOut(part) => Box::new(Second {
             rules: Right,
             left_out: Some(part),
         }),
@@ -29,7 +29,7 @@ pub fn second_side(fault: impl Into<Fault>) -> Box<dyn Side> {
 
 struct Second<R> {
     rules: R,
-    /// A part of the test of records that is not made.
+    /// A part of the boundary's test that is not made.
     left_out: Option<Part>,
 }
 
@@ -40,10 +40,10 @@ impl<R: SlipRules> Side for Second<R> {
                 let created = self.rules.create(word, backstop, now);
                 Answer::Clock {
                     refusal: created.refusal,
-                    record: record_of(&created.clock),
+                    clock: narrow_clock(&created.clock),
                 }
             }
-            Ask::Read { record, now } => match self.clock_of(&record) {
+            Ask::Read { clock, now } => match self.tested(&clock) {
                 None => Answer::Reading {
                     refusal: NOT_A_CLOCK,
                     value: 0,
@@ -56,20 +56,20 @@ impl<R: SlipRules> Side for Second<R> {
                     }
                 }
             },
-            Ask::Update { record, request, now } => match self.clock_of(&record) {
+            Ask::Update { clock, request, now } => match self.tested(&clock) {
                 None => Answer::Clock {
                     refusal: NOT_A_CLOCK,
-                    record,
+                    clock,
                 },
                 Some(clock) => {
                     let updated = self.rules.update(&clock, &request, now);
                     Answer::Clock {
                         refusal: updated.refusal,
-                        record: record_of(&updated.clock),
+                        clock: narrow_clock(&updated.clock),
                     }
                 }
             },
-            Ask::Details { record, now } => match self.clock_of(&record) {
+            Ask::Details { clock, now } => match self.tested(&clock) {
                 None => Answer::Details {
                     refusal: NOT_A_CLOCK,
                     details: Details::default(),
@@ -78,19 +78,12 @@ impl<R: SlipRules> Side for Second<R> {
                     let detailed = self.rules.details(&clock, now);
                     Answer::Details {
                         refusal: detailed.refusal,
-                        details: details_of(&detailed.details),
+                        details: narrow_details(&detailed.details),
                     }
                 }
             },
-            Ask::Started { record } => match self.clock_of(&record) {
-                None => Answer::Started {
-                    refusal: NOT_A_CLOCK,
-                    started: false,
-                },
-                Some(clock) => Answer::Started {
-                    refusal: 0,
-                    started: self.rules.started(&clock),
-                },
+            Ask::Started { clock } => Answer::Started {
+                started: self.tested(&clock).is_some_and(|clock| self.rules.started(&clock)),
             },
             Ask::ReadSlip { bytes } => {
                 let received = self.rules.read_slip(bytes);
@@ -116,19 +109,19 @@ impl<R: SlipRules> Side for Second<R> {
 }
 
 impl<R> Second<R> {
-    /// The record's clock, or none where the record can't be a clock's.
-    fn clock_of(&self, record: &Record) -> Option<Clock> {
-        let failed = failing(record).any(|part| Some(part) != self.left_out);
-        (!failed).then(|| clock_of(record))
+    /// The clock as the second program holds it, or none where it fails the test.
+    fn tested(&self, clock: &Clock) -> Option<second::Clock> {
+        let failed = failing(clock).any(|part| Some(part) != self.left_out);
+        (!failed).then(|| wide_clock(clock))
     }
 }
 
 /// The line's value, by the rules as they are written.
-pub fn value(record: &Record, t: i64) -> i128 {
-    Right.value(&wide(&record.line), t.into())
+pub fn value(line: &Line, t: i64) -> i128 {
+    Right.value(&wide_line(line), t.into())
 }
 
-fn wide(line: &Line) -> second::Line {
+fn wide_line(line: &Line) -> second::Line {
     second::Line {
         reference: line.reference.into(),
         synthetic: line.synthetic.into(),
@@ -136,15 +129,15 @@ fn wide(line: &Line) -> second::Line {
     }
 }
 
-fn clock_of(record: &Record) -> Clock {
-    Clock {
-        word: record.word,
-        backstop: record.backstop.into(),
-        started: record.started != 0,
-        line: wide(&record.line),
-        error: record.error.into(),
-        generation: record.generation.into(),
-        latest: record.latest.into(),
+fn wide_clock(clock: &Clock) -> second::Clock {
+    second::Clock {
+        word: clock.word,
+        backstop: clock.backstop.into(),
+        started: clock.started != 0,
+        line: wide_line(&clock.line),
+        error: clock.error.into(),
+        generation: clock.generation.into(),
+        latest: clock.latest.into(),
     }
 }
 
@@ -153,7 +146,7 @@ fn narrow(wide: i128) -> i64 {
     i64::try_from(wide).unwrap_or(i64::MAX)
 }
 
-fn line_of(line: &second::Line) -> Line {
+fn narrow_line(line: &second::Line) -> Line {
     Line {
         reference: narrow(line.reference),
         synthetic: narrow(line.synthetic),
@@ -161,22 +154,22 @@ fn line_of(line: &second::Line) -> Line {
     }
 }
 
-pub fn record_of(clock: &Clock) -> Record {
-    Record {
+fn narrow_clock(clock: &second::Clock) -> Clock {
+    Clock {
+        line: narrow_line(&clock.line),
         backstop: narrow(clock.backstop),
-        line: line_of(&clock.line),
-        error: clock.error as u64,
         latest: narrow(clock.latest),
+        error: clock.error as u64,
         generation: clock.generation as u32,
         word: clock.word,
         started: clock.started.into(),
     }
 }
 
-fn details_of(details: &second::Details) -> Details {
+fn narrow_details(details: &second::Details) -> Details {
     Details {
         started: details.started,
-        line: line_of(&details.line),
+        line: narrow_line(&details.line),
         error: details.error as u64,
         generation: details.generation as u32,
         latest: narrow(details.latest),

@@ -1,7 +1,7 @@
 //! Makes a failing list short and its numbers small, while it still fails.
 
 use crate::call::Call;
-use crate::side::{Line, Record, Request};
+use crate::side::{Clock, Line, Request};
 
 /// How many lists are tried at most. Two numbers that must keep their distance come nearer to 0 only by turns, in very many steps.
 const TRIES: u32 = 20_000;
@@ -102,19 +102,19 @@ fn simpler(call: &Call) -> Vec<Call> {
                 now: number as i64,
             }));
         }
-        &Call::MadeUp { record, request, now } => {
+        &Call::MadeUp { clock, request, now } => {
             all.extend(
-                simpler_records(&record)
+                simpler_clocks(&clock)
                     .into_iter()
-                    .map(|record| Call::MadeUp { record, request, now }),
+                    .map(|clock| Call::MadeUp { clock, request, now }),
             );
             all.extend(
                 simpler_requests(&request)
                     .into_iter()
-                    .map(|request| Call::MadeUp { record, request, now }),
+                    .map(|request| Call::MadeUp { clock, request, now }),
             );
             all.extend(nearer(now.into()).map(|number| Call::MadeUp {
-                record,
+                clock,
                 request,
                 now: number as i64,
             }));
@@ -166,43 +166,43 @@ fn simpler_requests(request: &Request) -> Vec<Request> {
     all
 }
 
-fn simpler_records(record: &Record) -> Vec<Record> {
-    let record = *record;
-    let line = |line: Line| Record { line, ..record };
+fn simpler_clocks(clock: &Clock) -> Vec<Clock> {
+    let clock = *clock;
+    let line = |line: Line| Clock { line, ..clock };
     let mut all = Vec::new();
-    all.extend(fewer_bits(record.word.into()).map(|word| Record {
+    all.extend(fewer_bits(clock.word.into()).map(|word| Clock {
         word: word as u8,
-        ..record
+        ..clock
     }));
-    all.extend(nearer(record.backstop.into()).map(|number| Record {
+    all.extend(nearer(clock.backstop.into()).map(|number| Clock {
         backstop: number as i64,
-        ..record
+        ..clock
     }));
-    all.extend(nearer(record.line.reference.into()).map(|number| {
+    all.extend(nearer(clock.line.reference.into()).map(|number| {
         line(Line {
             reference: number as i64,
-            ..record.line
+            ..clock.line
         })
     }));
-    all.extend(nearer(record.line.synthetic.into()).map(|number| {
+    all.extend(nearer(clock.line.synthetic.into()).map(|number| {
         line(Line {
             synthetic: number as i64,
-            ..record.line
+            ..clock.line
         })
     }));
-    all.extend(nearer(record.line.rate.into()).map(|number| {
+    all.extend(nearer(clock.line.rate.into()).map(|number| {
         line(Line {
             rate: number as i32,
-            ..record.line
+            ..clock.line
         })
     }));
-    all.extend(nearer(record.latest.into()).map(|number| Record {
+    all.extend(nearer(clock.latest.into()).map(|number| Clock {
         latest: number as i64,
-        ..record
+        ..clock
     }));
-    all.extend(nearer(record.generation.into()).map(|number| Record {
+    all.extend(nearer(clock.generation.into()).map(|number| Clock {
         generation: number as u32,
-        ..record
+        ..clock
     }));
     all
 }

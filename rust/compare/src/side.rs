@@ -5,20 +5,20 @@ use std::fmt;
 pub use second::Request;
 
 /// A line's three numbers.
-#[derive(Clone, Copy, Debug, Default, PartialEq, Eq, Hash)]
+#[derive(Clone, Copy, Debug, Default, PartialEq, Eq)]
 pub struct Line {
     pub reference: i64,
     pub synthetic: i64,
     pub rate: i32,
 }
 
-/// A clock as the boundary hands it about.
-#[derive(Clone, Copy, Debug, Default, PartialEq, Eq, Hash)]
-pub struct Record {
-    pub backstop: i64,
+/// A clock's numbers, as they cross the boundary. They may be made up, and no clock's.
+#[derive(Clone, Copy, Debug, Default, PartialEq, Eq)]
+pub struct Clock {
     pub line: Line,
-    pub error: u64,
+    pub backstop: i64,
     pub latest: i64,
+    pub error: u64,
     pub generation: u32,
     pub word: u8,
     pub started: u8,
@@ -41,10 +41,10 @@ pub struct Details {
 #[derive(Clone, Copy, Debug)]
 pub enum Ask<'a> {
     Create { word: u8, backstop: i64, now: i64 },
-    Read { record: Record, now: i64 },
-    Update { record: Record, request: Request, now: i64 },
-    Details { record: Record, now: i64 },
-    Started { record: Record },
+    Read { clock: Clock, now: i64 },
+    Update { clock: Clock, request: Request, now: i64 },
+    Details { clock: Clock, now: i64 },
+    Started { clock: Clock },
     ReadSlip { bytes: &'a [u8] },
     WriteSlip { request: Request, buffer: &'a [u8] },
     SlipLength { word: u64 },
@@ -55,7 +55,7 @@ pub enum Ask<'a> {
 pub enum Answer {
     Clock {
         refusal: u8,
-        record: Record,
+        clock: Clock,
     },
     Reading {
         refusal: u8,
@@ -66,7 +66,6 @@ pub enum Answer {
         details: Details,
     },
     Started {
-        refusal: u8,
         started: bool,
     },
     Request {
@@ -90,17 +89,16 @@ impl Answer {
             Answer::Clock { refusal, .. }
             | Answer::Reading { refusal, .. }
             | Answer::Details { refusal, .. }
-            | Answer::Started { refusal, .. }
             | Answer::Request { refusal, .. }
             | Answer::Slip { refusal, .. } => refusal,
-            Answer::Length { .. } => 0,
+            Answer::Started { .. } | Answer::Length { .. } => 0,
         }
     }
 
-    /// The clock's record, where one is handed back.
-    pub fn record(&self) -> Option<Record> {
+    /// The clock, where one is handed back.
+    pub fn clock(&self) -> Option<Clock> {
         match *self {
-            Answer::Clock { record, .. } => Some(record),
+            Answer::Clock { clock, .. } => Some(clock),
             _ => None,
         }
     }
@@ -117,7 +115,7 @@ impl fmt::Display for Line {
     }
 }
 
-impl fmt::Display for Record {
+impl fmt::Display for Clock {
     fn fmt(&self, f: &mut fmt::Formatter) -> fmt::Result {
         write!(
             f,
@@ -144,10 +142,10 @@ impl fmt::Display for Answer {
             refusal => write!(f, "refusal {refusal}: ")?,
         }
         match self {
-            Answer::Clock { record, .. } => write!(f, "{record}"),
+            Answer::Clock { clock, .. } => write!(f, "{clock}"),
             Answer::Reading { value, .. } => write!(f, "{value}"),
             Answer::Details { details, .. } => write!(f, "{details}"),
-            Answer::Started { started, .. } => write!(f, "started {started}"),
+            Answer::Started { started } => write!(f, "started {started}"),
             Answer::Request { request, .. } => write!(f, "{}", Asking(request)),
             Answer::Slip { length, buffer, .. } => write!(f, "{length} bytes of {}", Bytes(buffer)),
             Answer::Length { length } => write!(f, "{length} bytes"),

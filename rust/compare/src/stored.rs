@@ -8,7 +8,7 @@ mod tell;
 use second::END;
 
 use crate::call::Call;
-use crate::side::{Record, Side};
+use crate::side::{Clock, Side};
 
 /// What one program printed.
 #[derive(Clone, Debug)]
@@ -90,7 +90,7 @@ impl StoredFile {
 
     /// Tells every line again from the side's answers. The answer is how many there are, none left out.
     pub fn told_again(&self, side: &dyn Side) -> Result<usize, Unlike> {
-        let mut clock = Record::default();
+        let mut clock = Clock::default();
         let mut count = 0;
         for (line, text) in self.lines().zip(self.texts()) {
             let told = line?.told(side, &mut clock);
@@ -143,7 +143,7 @@ impl Line {
     }
 
     /// The line with the side's answers. The clock is as the call before left it.
-    fn told(&self, side: &dyn Side, clock: &mut Record) -> String {
+    fn told(&self, side: &dyn Side, clock: &mut Clock) -> String {
         let told: Vec<String> = self
             .calls
             .iter()
@@ -157,12 +157,12 @@ impl Line {
         format!("{}{told}", self.head)
     }
 
-    fn call_told(&self, call: &Call, side: &dyn Side, clock: &mut Record) -> String {
+    fn call_told(&self, call: &Call, side: &dyn Side, clock: &mut Clock) -> String {
         let Some(answer) = call.ask(*clock).map(|ask| side.answer(&ask)) else {
             return call.to_string();
         };
-        if let Some(record) = answer.record() {
-            *clock = record;
+        if let Some(left) = answer.clock() {
+            *clock = left;
         }
         if self.refusals_only {
             answer.refusal().to_string()

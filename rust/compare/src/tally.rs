@@ -4,8 +4,8 @@ use std::fmt;
 
 use second::hyphenated;
 
-use crate::given::{CORNER, Part, failing};
-use crate::side::{Ask, Record};
+use crate::is_clock::{Part, failing};
+use crate::side::{Ask, Clock};
 
 /// The kinds of calls, each with the refusals that it must have met.
 const KINDS: [(&str, &[u8]); 8] = [
@@ -13,7 +13,7 @@ const KINDS: [(&str, &[u8]); 8] = [
     ("read", &[1, 2, 12, 255]),
     ("update", &[1, 2, 3, 4, 5, 6, 7, 8, 9, 10, 11, 12, 13, 14, 255]),
     ("details", &[1, 2, 255]),
-    ("started", &[255]),
+    ("started", &[]),
     ("read slip", &[3, 6, 18, 19, 20]),
     ("write slip", &[3, 5, 6, 21]),
     ("slip length", &[]),
@@ -25,22 +25,20 @@ const CLOCK_KINDS: usize = 5;
 #[derive(Clone, Debug)]
 pub struct Tally {
     counts: [[u64; 256]; KINDS.len()],
-    /// The made-up records that can be given; those that can't for one part alone, by parts; and for several.
-    given: u64,
+    /// The made-up clocks that pass the boundary's test; those that fail one part alone, by parts; and those that fail
+    /// several.
+    passing: u64,
     failing: [u64; Part::ALL.len()],
     failing_several: u64,
-    /// Those of the corner that the library took for clocks.
-    pub corner: u64,
 }
 
 impl Default for Tally {
     fn default() -> Self {
         Tally {
             counts: [[0; 256]; KINDS.len()],
-            given: 0,
+            passing: 0,
             failing: [0; Part::ALL.len()],
             failing_several: 0,
-            corner: 0,
         }
     }
 }
@@ -60,11 +58,11 @@ impl Tally {
         self.counts[kind][usize::from(refusal)] += 1;
     }
 
-    /// A record made up by hand.
-    pub fn count_record(&mut self, record: &Record) {
-        let mut parts = failing(record);
+    /// A clock made up by hand.
+    pub fn count_made_up(&mut self, clock: &Clock) {
+        let mut parts = failing(clock);
         match (parts.next(), parts.next()) {
-            (None, _) => self.given += 1,
+            (None, _) => self.passing += 1,
             (Some(part), None) => self.failing[part as usize] += 1,
             (Some(_), Some(_)) => self.failing_several += 1,
         }
@@ -75,7 +73,8 @@ impl Tally {
         self.counts.iter().flatten().sum()
     }
 
-    /// The refusals that should have been met, acceptance with them, and the records that should have been made up, but weren't.
+    /// The refusals that should have been met, acceptance with them, and the clocks that should have been made up, but
+    /// weren't.
     pub fn missing(&self) -> Vec<String> {
         let kinds = KINDS.iter().zip(&self.counts);
         let calls = kinds.flat_map(|((name, refusals), counts)| {
@@ -86,9 +85,9 @@ impl Tally {
             not_met.map(move |refusal| format!("{name} {refusal}"))
         });
         let parts = Part::ALL.iter().zip(self.failing).filter(|&(_, count)| count == 0);
-        let records = parts.map(|(part, _)| format!("a record without {} alone", hyphenated(part)));
-        let given = (self.given == 0).then(|| "a record made up that can be given".to_string());
-        calls.chain(records).chain(given).collect()
+        let failing = parts.map(|(part, _)| format!("a made-up clock that fails {} alone", hyphenated(part)));
+        let passing = (self.passing == 0).then(|| "a made-up clock that passes".to_string());
+        calls.chain(failing).chain(passing).collect()
     }
 }
 
@@ -110,17 +109,12 @@ impl fmt::Display for Tally {
         }
         write!(
             f,
-            "records made up: {} can be given, {} fail several parts; those that fail one alone:",
-            self.given, self.failing_several
+            "made-up clocks: {} pass, {} fail several parts of the test; those that fail one alone:",
+            self.passing, self.failing_several
         )?;
         for (part, count) in Part::ALL.iter().zip(self.failing) {
             write!(f, " {} {count}", hyphenated(part))?;
         }
-        writeln!(
-            f,
-            "\nthe library took {} of those without {} alone for clocks",
-            self.corner,
-            hyphenated(&CORNER)
-        )
+        writeln!(f)
     }
 }

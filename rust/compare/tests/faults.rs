@@ -26,13 +26,13 @@ fn nothing_is_found_where_there_is_no_fault() {
     );
 }
 
-/// By the fixed lists, which are the first to be tried, or else by made ones.
+/// By the fixed lists and the stored lines alone.
 #[test]
-fn every_fault_is_found() {
+fn every_fault_is_found_by_fixed_lists() {
     for fault in Fault::all() {
         let (library, second) = (library_side(), second_side(fault));
         let sides = sides(library.as_ref(), second.as_ref());
-        check(sides, fault, search(sides, 1, CALLS).finding, "");
+        check(sides, fault, search(sides, 1, 0).finding, "");
     }
 }
 
@@ -64,18 +64,18 @@ fn check(sides: Sides, fault: Fault, finding: Option<Finding>, words: &str) {
 /// Every fault has a name of its own and is found by it.
 #[test]
 fn fault_names() {
-    let name = Fault::RecordTestLeftOut(Part::FirstLine).to_string();
-    assert_eq!(name, "record-test-left-out-first-line");
+    let name = Fault::ClockTestLeftOut(Part::WordKnown).to_string();
+    assert_eq!(name, "clock-test-left-out-word-known");
     for fault in Fault::all() {
         assert_eq!(Fault::named(&fault.to_string()), Some(fault));
     }
 }
 
 /// Faults that both sides have are none to the comparison of answers. Those against the demands are found all the same, by the
-/// demand that they break, and so are records that no list can lead to.
+/// demand that they break.
 #[test]
 fn the_demands_find_faults_that_both_sides_have() {
-    let faults = [
+    find_in_both(&[
         (
             Rule::LatestMovedByRefused,
             "demand 1: the refused update altered the clock",
@@ -84,11 +84,6 @@ fn the_demands_find_faults_that_both_sides_have() {
             Rule::ErrorStoredByRefused,
             "demand 1: the refused update altered the clock",
         ),
-        (Rule::LeftOut(Place::Update, 13), "no list leads to"),
-        (Rule::LeftOut(Place::Update, 9), "no list leads to"),
-        (Rule::LeftOut(Place::Create, 17), "no list leads to"),
-        (Rule::GenerationRaisedByError, "no list leads to"),
-        (Rule::AutoStartAtBackstop, "no list leads to"),
         (Rule::NotStartedBySet, "demand 3: the ideal line"),
         (Rule::ReadsZeroBeforeStart, "demand 2: the reading"),
         (
@@ -116,8 +111,46 @@ fn the_demands_find_faults_that_both_sides_have() {
         (Rule::OldRateDroppedBySet, "demand 3"),
         (Rule::AutoStartAtBackstop, "demand 3"),
         (Rule::MultipliedNarrow, "demand"),
-    ];
-    for (fault, words) in faults {
+    ]);
+}
+
+/// So are those after which creation or an update leaves no clock, by the part of the boundary's test that fails.
+#[test]
+fn the_test_finds_faults_that_both_sides_have() {
+    find_in_both(&[
+        (Rule::LeftOut(Place::Create, 1), "no clock, by latest-inside"),
+        (Rule::LeftOut(Place::Create, 3), "no clock, by word-known"),
+        (Rule::LeftOut(Place::Create, 15), "no clock, by continuous-is-monotonic"),
+        (Rule::LeftOut(Place::Create, 16), "no clock, by backstop-inside"),
+        (Rule::LeftOut(Place::Create, 17), "no clock, by auto-latest"),
+        (Rule::UnknownErrorIsZero, "no clock, by error-before-start"),
+        (Rule::FirstGenerationZero, "no clock, by generation-before-start"),
+        (Rule::LeftOut(Place::Update, 1), "no clock, by latest-inside"),
+        (Rule::LeftOut(Place::Update, 5), "no clock, by reference-inside"),
+        (Rule::LeftOut(Place::Update, 6), "no clock, by rate-inside"),
+        (Rule::LineStartNotTested, "no clock, by synthetic-inside"),
+        (Rule::LeftOut(Place::Update, 13), "no clock, by value-at-latest"),
+    ]);
+}
+
+/// And those against what is promised of a made-up clock.
+#[test]
+fn the_promises_find_faults_that_both_sides_have() {
+    find_in_both(&[
+        (Fault::ClockTestLeftOut(Part::ValueAtLatest), "made up: the reading"),
+        (Fault::ClockTestLeftOut(Part::BackstopInside), "made up: the reading"),
+        (Rule::LeftOut(Place::Read, 12).into(), "made up: the reading"),
+        (Rule::LatestMovedByRefused.into(), "made up: demand 1"),
+        (
+            Rule::LeftOut(Place::Update, 13).into(),
+            "made up: no clock, by value-at-latest",
+        ),
+    ]);
+}
+
+/// Each fault, of both sides, is found with its words.
+fn find_in_both(faults: &[(impl Into<Fault> + Copy, &str)]) {
+    for &(fault, words) in faults {
         let both = second_side(fault);
         let sides = sides(both.as_ref(), both.as_ref());
         let finding = search_made_for(sides, 1, CALLS, Tally::default(), words).finding;

@@ -1,25 +1,14 @@
 use borrow.Author.Needs.{needs}
 use native.Mathlib.Omega.{arith}
-use Prim.Native.Nat.{ℕ, _<_, _/_, _%_}
-use mathlib.Core.Bool.{Bool, true, false, not, _&&_}
-use lib.Dec.{eqb}
-use borrow.Author.Tests.{eq-eqb}
-use Rattle.clock.specs.Creation.{othersZero}
-use mathlib.Core.Path.{_≡_, refl, sym, ap, _∙_, subst}
+use Prim.Native.Nat.{_<_}
+use mathlib.Core.Path.{refl, _∙_}
 use mir.Syntax.{w64}
 use mir.ValLaws.{toZ-ofZ}
 use Rattle.clock.specs.Creation.{creationTable}
 use Rattle.clock.proofs.Tables.{row, walk-first}
+use Rattle.clock.proofs.Creations.{others-zero}
 use Rattle.clock.proofs.creation_refusal.Statement.{statement}
 use Rattle.clock.proofs.creation_refusal.Tie as tie
-
--- a byte has no bit above the flags
-others-zero : (word : ℕ) → word < 256 → not (eqb (word % 32) 0) ≡ not (othersZero word)
-others-zero word h = rw (eq-eqb (word / 256) 0 (omega arith)) (go (eqb (word % 32) 0))
-  where
-    go : (b : Bool) → not b ≡ not (b && true)
-    go true = refl
-    go false = refl
 
 is-monotonic-requires : tie.Need-is-monotonic-requires
 is-monotonic-requires c κs = search needs

@@ -3,7 +3,7 @@ use lib.IntN.{ℤ}
 use mir.Syntax.{w64}
 use mir.ValLaws.{toZ-ofZ}
 use Rattle.clock.specs.Update.{updating}
-use Rattle.trials.proofs.Lives.{clock-valid, goes-on, stays-alive, stays-none, none-alive}
+use Rattle.trials.proofs.Lives.{goes-on, stays-none}
 use borrow.Author.Needs.{needs}
 use Rattle.trials.proofs.update.Statement.{statement}
 use Rattle.trials.proofs.update.Tie as tie
@@ -15,7 +15,7 @@ enum-known-life : tie.Need-enum-known-life
 enum-known-life c = search needs
 
 update-requires : tie.Need-update-requires
-update-requires c κs = clock-valid (c .before .life .given .1) (c .before .before .before .before .pre)
+update-requires c κs = search needs
 
 taken-requires : tie.Need-taken-requires
 taken-requires c κs = search needs
@@ -35,12 +35,12 @@ returns c =
     let e = c .before .before .before .before .life .given .1 in
     let f : c .before .before .update .result ≡ updating (c .before .before .before .before .life .given .0 .0) (s .args .request) (s .args .now) =
     c .before .before .update .ensures ∙ ap (λ (t : ℤ). updating (c .before .before .before .before .life .given .0 .0) (s .args .request) t) (toZ-ofZ w64 _ (s .fits .now)) in
-    (goes-on (s .args .request) (s .args .now) e f, stays-alive (s .args .request) (s .args .now) e f (s .pre))
+    goes-on (s .args .request) (s .args .now) e f
 
 returns-2 : tie.Need-returns-2
 returns-2 c =
     let s = c .before .before .before .before .before .before in
-    (stays-none (s .args .request) (s .args .now) (c .before .before .before .life2 .given .1), none-alive _)
+    stays-none (s .args .request) (s .args .now) (c .before .before .before .life2 .given .1)
 
 pub update-spec : {M : Type 1} → statement M
 update-spec =

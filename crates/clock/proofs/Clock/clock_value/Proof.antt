@@ -1,9 +1,10 @@
-use mathlib.Core.Path.{_≡_, refl, sym, ap, _∙_, subst}
+use mathlib.Core.Path.{_≡_, sym}
 use mir.Syntax.{w64}
 use mir.Val.{toZ, ofZ}
 use mir.ValLaws.{toZ-ofZ}
 use Rattle.clock.specs.Reading.{clockValue}
 use Rattle.clock.proofs.Placed.{placed-in}
+use borrow.Author.Tests.{ne-eqb}
 use borrow.Author.Needs.{needs}
 use Rattle.clock.proofs.Clock.clock_value.Statement.{statement}
 use Rattle.clock.proofs.Clock.clock_value.Tie as tie
@@ -13,13 +14,14 @@ value-at-requires c κs = search needs
 
 returns : tie.Need-returns
 unfolding clockValue
-returns c = simp (toZ-ofZ w64 _ (c .before .before .before .fits .now), c .before .before .if1 .taken, c .value-at .ensures)
+returns c = simp (toZ-ofZ w64 _ (c .before .before .before .before .fits .now), c .before .before .if1 .taken, c .value-at .ensures)
 
 returns-2 : tie.Need-returns-2
 unfolding clockValue
 returns-2 c =
-    let b : toZ w64 (ofZ w64 (c .before .before .args .self .backstop)) ≡ c .before .before .args .self .backstop = search needs in
-    simp (b, c .before .if1 .left) (sym (placed-in (c .before .before .args .self .backstop) (c .before .before .pre .0 .backstop)))
+    let s = c .before .before .before in
+    let b : toZ w64 (ofZ w64 (s .args .self .backstop)) ≡ s .args .self .backstop = search needs in
+    simp (b, ne-eqb (s .args .self .started) 1 (c .before .if1 .left)) (sym (placed-in (s .args .self .backstop) (s .pre .0 .backstop)))
 
 pub clock-value-spec : {M : Type 1} → statement M
 clock-value-spec = tie.close (tie.spec value-at-requires returns returns-2)

@@ -1,4 +1,4 @@
-use mathlib.Core.Path.{_≡_, refl, sym, ap, _∙_, subst}
+use mathlib.Core.Path.{_≡_}
 use mir.Syntax.{w64}
 use mir.ValLaws.{toZ-ofZ}
 use mir.Val.{toZ, ofZ}
@@ -13,7 +13,7 @@ shown-line-requires c κs = search needs
 returns : tie.Need-returns
 unfolding detailsOf
 returns c =
-    let s = c .before .before in
+    let s = c .before .before .before in
     let l : toZ w64 (ofZ w64 (s .args .self .latest)) ≡ s .args .self .latest = search needs in
     let b : toZ w64 (ofZ w64 (s .args .self .backstop)) ≡ s .args .self .backstop = search needs in
     simp (c .before .shown-line .ensures, l, b, toZ-ofZ w64 _ (s .fits .now))

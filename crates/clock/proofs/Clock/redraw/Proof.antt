@@ -1,20 +1,13 @@
-use mathlib.Core.Path.{_≡_, refl, sym, ap, _∙_, subst}
-use borrow.Author.Tests.{ne-eqb}
+use mathlib.Core.Path.{_≡_, sym, ap, _∙_, subst}
 use mir.Syntax.{w64}
 use mir.Val.{toZ, ofZ}
 use mir.ValLaws.{toZ-ofZ}
-use Prim.Native.Nat.{ℕ}
-use lib.IntN.{ℤ}
-use Rattle.clock.specs.Clock.{Drawable, InRange, oldLine}
-use Rattle.clock.specs.Update.{place, newLine, updateRefusal, updating}
-use Rattle.clock.specs.Parts.{numberOf, syntheticOf, drawnLine, lineTable}
-use Rattle.clock.specs.Refusals.{first}
-use Rattle.clock.specs.declared.Line.{Line}
-use Rattle.clock.specs.declared.Clock.{Clock}
-use Rattle.clock.specs.declared.Request.{Request}
-use Rattle.clock.specs.declared.value.Value.{Value}
+use Rattle.clock.specs.Clock.{Drawable, InRange}
+use Rattle.clock.specs.Update.{place}
+use Rattle.clock.specs.Parts.{numberOf}
 use Rattle.clock.proofs.Requests.{old-drawable}
 use Rattle.clock.proofs.NewLine.{startNow, lineNow, refusalNow, now-passed, place-passed, line-drawable, line-drawn, update-taken, update-judged}
+use Rattle.clock.proofs.Taken.{taken-valid}
 use borrow.Author.Needs.{needs}
 use Rattle.clock.proofs.Clock.redraw.Statement.{statement}
 use Rattle.clock.proofs.Clock.redraw.Tie as tie
@@ -49,7 +42,7 @@ new-synthetic-requires c κs =
     let s = c .before .before in
     let back : toZ w64 (ofZ w64 (c .place .result)) ≡ c .place .result = search needs in
     let e : toZ w64 (ofZ w64 (c .place .result)) ≡ place (s .args .request) (s .args .now) = back ∙ c .place .ensures ∙ simp (toZ-ofZ w64 _ (s .fits .now)) in (
-      subst Drawable (sym (c .before .old-line .ensures)) (old-drawable (s .args .self) (s .pre .0)),
+      subst Drawable (sym (c .before .old-line .ensures)) (old-drawable (s .args .self) (taken-valid (s .args .self) (s .pre .0))),
       subst InRange (sym e) (place-passed (s .args .self) (s .args .request) (s .args .now) (s .pre .0) (s .pre .1)),
     )
 
@@ -65,7 +58,7 @@ replaces-requires c κs = search needs
 line-refusal-requires : tie.Need-line-refusal-requires
 line-refusal-requires c κs =
     let s = c .before .before .before .before .before .before in (
-      s .pre .0,
+      taken-valid (s .args .self) (s .pre .0),
       subst Drawable (sym (line-is c)) (line-drawable (s .args .self) (s .args .request) (s .args .now) (s .pre .0) (s .pre .1)),
       subst InRange (sym (toZ-ofZ w64 _ (s .fits .now))) (now-passed (s .args .self) (s .args .request) (s .args .now) (s .pre .1)),
     )

@@ -1,4 +1,4 @@
-use mathlib.Core.Path.{_≡_, refl, sym, ap, _∙_, subst}
+use mathlib.Core.Path.{_≡_, sym, _∙_}
 use mir.Syntax.{w64}
 use mir.Val.{toZ, ofZ}
 use mir.ValLaws.{toZ-ofZ}
@@ -70,7 +70,7 @@ next-requires-9 c κs = search needs
 returns : tie.Need-returns
 unfolding updateTable timeTable
 returns c =
-    let s = c .before .before .before .before .before .before .before .before .before .before .before .before .before .before .before .before .before .before .before .before in
+    let s = c .before .before .before .before .before .before .before .before .before .before .before .before .before .before .before .before .before .before .before .before .before in
     let latest : toZ w64 (ofZ w64 (s .args .self .latest)) ≡ s .args .self .latest = search needs in
     let time : c .before .before .before .before .before .before .before .before .before .before .before .before .time-refusal .result ≡ first (timeTable (s .args .self .latest) (s .args .now)) =
     c .before .before .before .before .before .before .before .before .before .before .before .before .time-refusal .ensures ∙ simp (latest, toZ-ofZ w64 _ (s .fits .now)) in

@@ -1,32 +1,25 @@
-use mathlib.Core.Path.{_≡_, refl, sym, ap, _∙_, subst}
+use mathlib.Core.Path.{sym, _∙_, subst}
+use lib.Dec.{T}
 use mir.Syntax.{w64}
 use mir.ValLaws.{toZ-ofZ}
-use Rattle.clock.specs.Refusals.{first}
-use Rattle.clock.specs.Parts.{rowsBefore}
-use Rattle.clock.specs.Update.{updateTable}
-use Rattle.clock.proofs.NewLine.{update-refused}
-use borrow.Author.Tests.{ne-eqb}
-use Rattle.clock.specs.Update.{updateTable, updateRefusal, updating}
-use Rattle.clock.proofs.Tables.{rowsFrom, first-refused}
+use Rattle.clock.proofs.NewLine.{update-none}
 use borrow.Author.Needs.{needs}
 use Rattle.clock.proofs.Clock.update.Statement.{statement}
 use Rattle.clock.proofs.Clock.update.Tie as tie
 
-request-refusal-requires : tie.Need-request-refusal-requires
-request-refusal-requires c κs = search needs
+is-clock-requires : tie.Need-is-clock-requires
+is-clock-requires c κs = search needs
 
-redraw-requires : tie.Need-redraw-requires
-redraw-requires c κs = search needs
+update-clock-requires : tie.Need-update-clock-requires
+update-clock-requires c κs = subst T (sym (c .if1 .taken) ∙ c .before .is-clock .ensures) tt
 
 returns : tie.Need-returns
-returns c = c .redraw .ensures ∙ simp (toZ-ofZ w64 _ (c .before .before .before .fits .now))
+returns c = c .update-clock .ensures ∙ simp (toZ-ofZ w64 _ (c .before .before .before .fits .now))
 
 returns-2 : tie.Need-returns-2
 returns-2 c =
     let s = c .before .before in
-    let n : c .before .request-refusal .result ≡ first (rowsBefore 12 (updateTable (s .args .self) (s .args .request) (s .args .now))) =
-    c .before .request-refusal .ensures ∙ simp (toZ-ofZ w64 _ (s .fits .now)) in
-    update-refused (s .args .self) (s .args .request) (s .args .now) _ n (c .if1 .left)
+    update-none (s .args .self) (s .args .request) (s .args .now) (sym (c .before .is-clock .ensures) ∙ c .if1 .left)
 
 pub update-spec : {M : Type 1} → statement M
-update-spec = tie.close (tie.spec request-refusal-requires redraw-requires returns returns-2)
+update-spec = tie.close (tie.spec is-clock-requires update-clock-requires returns returns-2)
