@@ -135,7 +135,8 @@ struct cementoad_line {
  *     the latest time is not below the backstop; or
  *   - started is 0, auto start is not set, and line, error and generation are as creation leaves them.
  * So zeros are no clock. Of a made-up clock that passes nothing is promised but this: each call ends and answers by
- * the same rules, what an update hands back passes again, and no reading is below the backstop or outside 0..END. */
+ * the same rules, what an update hands back passes again, no reading is below the backstop or outside 0..END, and a
+ * refused update hands back every field as it was. */
 struct cementoad_clock {
     /* The line that the clock follows, zeros before the start. */
     struct cementoad_line line;
