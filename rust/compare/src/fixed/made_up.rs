@@ -93,39 +93,24 @@ fn words() -> Steps {
 fn backstops() -> Steps {
     // Above END by far at its latest time.
     let high = started(PLAIN, 0, line(0, LAST, 0), LAST);
-    let mut steps = Steps::new();
-    for clock in [not_started(PLAIN), high] {
-        for (backstop, expected) in [
-            (-1, 255),
-            (0, 0),
-            (LAST, 0),
-            (LAST + 1, 255),
-            (i64::MIN, 255),
-            (i64::MAX, 255),
-        ] {
-            steps.push(calls_on(Clock { backstop, ..clock }, expected));
-        }
-    }
-    steps
+    at_ends([not_started(PLAIN), high], |clock, backstop| Clock {
+        backstop,
+        ..clock
+    })
 }
 
 fn latest_times() -> Steps {
     // Above its backstop at every time.
     let high = started(PLAIN, 0, line(0, LAST, 0), 0);
-    let mut steps = Steps::new();
-    for clock in [not_started(PLAIN), high] {
-        for (latest, expected) in [
-            (-1, 255),
-            (0, 0),
-            (LAST, 0),
-            (LAST + 1, 255),
-            (i64::MIN, 255),
-            (i64::MAX, 255),
-        ] {
-            steps.push(calls_on(Clock { latest, ..clock }, expected));
-        }
-    }
-    steps
+    at_ends([not_started(PLAIN), high], |clock, latest| Clock { latest, ..clock })
+}
+
+/// The clocks with each end of the range put in, just inside and just outside.
+fn at_ends(clocks: [Clock; 2], with: fn(Clock, i64) -> Clock) -> Steps {
+    let outside = [-1, LAST + 1, i64::MIN, i64::MAX].map(|time| (time, 255));
+    let ends = [0, LAST].map(|time| (time, 0)).into_iter().chain(outside);
+    ends.flat_map(|(time, expected)| clocks.map(|clock| calls_on(with(clock, time), expected)))
+        .collect()
 }
 
 /// The latest time is before the backstop, at it or behind it; the value is not below it.
