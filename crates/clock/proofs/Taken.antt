@@ -2,13 +2,14 @@
 use mathlib.Core.Path.{_≡_, refl, ap, subst, subst⁻¹}
 use mathlib.Core.Bool.{Bool, true, false, not, cond, _&&_}
 use mathlib.Core.List.{List, _∷_}
+use mathlib.Core.Logic.{inl, inr}
 use Prim.Native.Nat.{ℕ, zero, suc, _≤_}
 use native.Mathlib.Omega.{arith}
 use lib.IntN.{ℤ, pos, negsuc, negℤ}
 use lib.Signed.{ltZ, leZ, _≤ℤ_}
 use lib.Dec.{T, eqb, leb, leb→le, eqb→eq}
 use Rattle.clock.specs.Numbers.{END, MAX_RATE, isZero, outside, timeOutside, rateOutside}
-use Rattle.clock.specs.Refusals.{Row, _when_, first}
+use Rattle.clock.specs.Refusals.{Row, _when_, first, Settled}
 use Rattle.clock.specs.Line.{line, identity, valueAt}
 use Rattle.clock.specs.Clock.{autoStart, isRunning, byteOf, Drawable, Valid}
 use Rattle.clock.specs.Creation.{creationTable, creationRefusal, created, UNKNOWN_ERROR}
@@ -35,6 +36,17 @@ guarded-none c rows e = rw e refl
 pub guarded-first : (c : Clock) (rows : List Row) → T (isClock c) → first (guarded c rows) ≡ first rows
 unfolding guarded
 guarded-first c rows t = rw (is-true (isClock c) t) refl
+
+-- so what the table with its row in front settles of a clock, the table alone does
+pub guarded-settled : {Answer : Type 0} (c : Clock) (rows : List Row) (answer taken : Answer) (refused : ℕ → Answer) → T (isClock c) →
+    Settled (guarded c rows) answer taken refused → Settled rows answer taken refused
+unfolding guarded
+guarded-settled c rows answer taken refused t settles = go (isClock c) t settles
+  where
+    go : (b : Bool) → T b → Settled (NOT_A_CLOCK when not b ∷ rows) answer taken refused → Settled rows answer taken refused
+    go true t (inl s) = inl (s .0 .1, s .1)
+    go true t (inr s) = inr s
+    go false t s = absurd t
 
 -- where no row of the table has that number, what is told apart by it is what is not taken for a clock
 pub guarded-apart : (c : Clock) (rows : List Row) → T (lacks NOT_A_CLOCK rows) → eqb (first (guarded c rows)) NOT_A_CLOCK ≡ not (isClock c)
@@ -161,7 +173,7 @@ module _ (c : Clock) where
     unfolding isClock
     taken-kept = and-right (leb (c .started) 1) (accepts && kept) t
 
-    pub taken-byte : T (leb (c .started) 1)
+    taken-byte : T (leb (c .started) 1)
     unfolding isClock
     taken-byte = and-left (leb (c .started) 1) (accepts && kept) t
 

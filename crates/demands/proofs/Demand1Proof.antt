@@ -1,10 +1,7 @@
 -- Demand 1: each answer is what its table says, and what is refused leaves the clock as it was and answers zeros.
 use mathlib.Core.Path.{_≡_, refl}
-use mathlib.Core.Bool.{Bool, true, false, not, cond}
-use mathlib.Core.List.{List, _∷_}
-use mathlib.Core.Logic.{inl, inr}
+use mathlib.Core.Bool.{not, cond}
 use mathlib.Core.Option.{none, some}
-use Prim.Native.Nat.{ℕ}
 use lib.IntN.{pos}
 use lib.Dec.{T, eqb}
 use borrow.Author.Tests.{ne-eqb}
@@ -15,8 +12,8 @@ use Rattle.clock.specs.Details.{detailsTable, detailsRefusal, detailsOf, detail
 use Rattle.clock.specs.Calls.{Call, update, ask, read, details, refusalOf, accepted, after}
 use Rattle.clock.specs.declared.Clock.{Clock}
 use Rattle.clock.proofs.Tests.{if-false}
-use Rattle.clock.specs.Refusals.{Row, _when_, Settled}
-use Rattle.clock.specs.Taken.{isClock, NOT_A_CLOCK, guarded}
+use Rattle.clock.specs.Taken.{guarded}
+use Rattle.clock.proofs.Taken.{guarded-settled}
 use Rattle.clock.proofs.Tables.{settled}
 use Rattle.demands.specs.Demand1.{Demand1·create, Demand1·read, Demand1·update, Demand1·details, Demand1·clock, Zeros, RefusedUnaltered, Demand1·refused, Demand1·calls}
 use Rattle.demands.proofs.Rows.{either-way}
@@ -58,22 +55,11 @@ demand1·details c now =
     (λ n. record { refusal = n; details = zeroDetails })
     tt refl (λ n h. simp (ne-eqb n 0 h))
 
--- of a clock the row in front never applies
-own-table : {Answer : Type 0} (c : Clock) (rows : List Row) (answer taken : Answer) (refused : ℕ → Answer) → T (isClock c) →
-    Settled (guarded c rows) answer taken refused → Settled rows answer taken refused
-unfolding guarded
-own-table c rows answer taken refused t settles = go (isClock c) t settles
-  where
-    go : (b : Bool) → T b → Settled (NOT_A_CLOCK when not b ∷ rows) answer taken refused → Settled rows answer taken refused
-    go true t (inl s) = inl (s .0 .1, s .1)
-    go true t (inr s) = inr s
-    go false t s = absurd t
-
 pub demand1·clock : Demand1·clock
 demand1·clock c t = record {
-  read = λ now. own-table c (readingTable c now) _ _ _ t (demand1·read c now);
-  update = λ u now. own-table c (updateTable c u now) _ _ _ t (demand1·update c u now);
-  details = λ now. own-table c (detailsTable c now) _ _ _ t (demand1·details c now);
+  read = λ now. guarded-settled c (readingTable c now) _ _ _ t (demand1·read c now);
+  update = λ u now. guarded-settled c (updateTable c u now) _ _ _ t (demand1·update c u now);
+  details = λ now. guarded-settled c (detailsTable c now) _ _ _ t (demand1·details c now);
 }
 
 -- ---- refused calls

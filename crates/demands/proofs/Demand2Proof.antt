@@ -71,26 +71,22 @@ update-not-back c u now t m = by-cases (isRunning c) running resting
 
 -- the monotonic clock c reads at least r from the time τ on
 pub record ReadsFrom (τ r : ℤ) (c : Clock) : Type 0 where
-  valid : Valid c
   isMonotonic : T (monotonic (c .word))
   atLeast : (t : ℤ) → τ ≤ℤ t → r ≤ℤ clockValue c t
 
 -- any monotonic clock, from its latest update on
 pub reads-from-latest : (c : Clock) → Valid c → T (monotonic (c .word)) → ReadsFrom (c .latest) (c .backstop) c
-reads-from-latest c v m = record { valid = v; isMonotonic = m; atLeast = λ t h. above-backstop c t v h }
+reads-from-latest c v m = record { isMonotonic = m; atLeast = λ t h. above-backstop c t v h }
 
 -- an accepted update moves the time on and keeps the bound
 pub reads-from-update : (τ r : ℤ) (c : Clock) (u : Request) (now : ℤ) → T (accepted c (update u now)) → τ ≤ℤ now →
     ReadsFrom τ r c → ReadsFrom now r (updated c u now)
 unfolding updated
-reads-from-update τ r c u now t h f =
-    let v = updated-valid c u now t in
-    record {
-      valid = v;
-      isMonotonic = f .isMonotonic;
-      atLeast = λ s l. ≤ℤ-trans (f .atLeast now h)
-          (≤ℤ-trans (update-not-back c u now t (f .isMonotonic)) (clock-rises (updated c u now) now s (v .line .rate) l));
-    }
+reads-from-update τ r c u now t h f = record {
+  isMonotonic = f .isMonotonic;
+  atLeast = λ s l. ≤ℤ-trans (f .atLeast now h)
+      (≤ℤ-trans (update-not-back c u now t (f .isMonotonic)) (clock-rises (updated c u now) now s (updated-valid c u now t .line .rate) l));
+}
 
 -- a reading from that time on is not below the bound, and is the bound from then on
 pub reads-at-least : (τ r : ℤ) (c : Clock) (v t : ℤ) → Known c v t → τ ≤ℤ t → ReadsFrom τ r c → r ≤ℤ v
@@ -98,9 +94,9 @@ reads-at-least τ r c v t known h f = subst (λ (x : ℤ). r ≤ℤ x) (known .i
 
 pub reads-from-reading : (τ r : ℤ) (c : Clock) (v t : ℤ) → Known c v t → ReadsFrom τ r c → ReadsFrom t v c
 reads-from-reading τ r c v t known f = record {
-  valid = f .valid;
   isMonotonic = f .isMonotonic;
-  atLeast = λ s l. subst (λ (x : ℤ). x ≤ℤ clockValue c s) (known .is) (clock-rises c t s (f .valid .line .rate) l);
+  atLeast = λ s l. subst (λ (x : ℤ). x ≤ℤ clockValue c s) (known .is)
+      (clock-rises c t s (taken-valid c (known .taken) .line .rate) l);
 }
 
 -- an update moves the time on, a reading moves time and bound on
