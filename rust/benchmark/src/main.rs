@@ -26,11 +26,7 @@ fn main() -> ExitCode {
             return ExitCode::FAILURE;
         }
     };
-    assert_eq!(
-        ffi::cementoad_abi(),
-        ffi::ABI,
-        "archive and crate are of different versions"
-    );
+    ffi::check_archive();
     let wanted = arguments.next().unwrap_or_default();
     let mut rows = rows::rows();
     rows.retain(|row| row.name.contains(&wanted));

@@ -8,11 +8,12 @@ use crate::ffi;
 static CHECKED: AtomicBool = AtomicBool::new(false);
 
 /// Compares the archive's version with this crate's at first use; later calls cost one load. It is called on every way
-/// into the archive: by creation, without which there is no clock to call with, and by the slip functions.
+/// into the archive: by creation, without which there is no clock to call with, and by the slip functions. Who calls the
+/// functions of `ffi` directly calls it first.
 ///
 /// # Panics
 /// Where the versions differ: structs or numbers mean something else there, and no answer can be trusted.
-pub(crate) fn check_archive() {
+pub fn check_archive() {
     if !CHECKED.load(Ordering::Relaxed) {
         check_version(ffi::cementoad_abi());
         CHECKED.store(true, Ordering::Relaxed);

@@ -1,6 +1,8 @@
 //! The archive's own functions, as `include/cementoad.h` declares them. Each takes any numbers and ends; only the
 //! pointers of the two slip functions ask for care. Bytes between the fields of a struct may hold anything.
 
+pub use crate::abi::check_archive;
+
 /// The version of the boundary that is declared here. It goes up with every change of a struct, a function or a number
 /// that callers were built with. Where [`cementoad_abi`] answers another, nothing else of the archive may be called.
 pub const ABI: u32 = 1;

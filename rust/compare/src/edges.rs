@@ -12,7 +12,7 @@ use crate::side::{Clock, Line};
 const LAST: i64 = END as i64;
 
 /// The creation words that there are.
-const WORDS: [u8; 6] = [0, 32, 128, 160, 192, 224];
+pub const WORDS: [u8; 6] = [0, 32, 128, 160, 192, 224];
 /// Both ends of the range, just inside and just outside.
 const ENDS: [i64; 4] = [-1, 0, LAST, LAST + 1];
 /// A distance that leaves room for others of up to 40 bits.

@@ -9,11 +9,7 @@ pub struct Library(());
 
 impl Library {
     pub fn new() -> Self {
-        assert_eq!(
-            ffi::cementoad_abi(),
-            ffi::ABI,
-            "archive and crate are of different versions"
-        );
+        ffi::check_archive();
         Library(())
     }
 }

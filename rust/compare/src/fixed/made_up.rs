@@ -5,11 +5,10 @@ use second::{AUTO_START, MONOTONIC};
 
 use super::{FixedList, LAST, PLAIN, STEADY, list, set};
 use crate::call::Call;
+use crate::edges::WORDS;
 use crate::side::{Clock, Line};
 
 type Steps = Vec<(Call, u8)>;
-
-const WORDS: [u8; 6] = [0, 32, 128, 160, 192, 224];
 
 /// The calls on a clock, at its latest time.
 fn calls_on(clock: Clock, expected: u8) -> (Call, u8) {
