@@ -1,5 +1,5 @@
 /* Prints what the header declares: each struct and field with its place and size, each constant, and each refusal with
- * its public name. The Rust crate's example `layout` prints the same lines from its own declarations. */
+ * its public name. The example `layout` of rust/cementoad prints the same lines from Rust's declarations. */
 #include <inttypes.h>
 #include <stdio.h>
 

@@ -1,10 +1,12 @@
 // The worked cases of 01 that speak of clocks, a line for each life of a clock. Case 12 speaks of slips.
+mod life;
+mod requests;
+
+use crate::life::create;
+use crate::life::read;
+use crate::life::update;
 use clock::Clock;
 use clock::Created;
-use trials::create;
-use trials::read;
-use trials::requests;
-use trials::update;
 
 // Creation words.
 const PLAIN: u8 = 0;
@@ -201,6 +203,9 @@ fn case_14() {
     lines::end();
 }
 
+// A line's head, as 'case 1: '.
 fn case(n: u64) {
-    lines::head(b"case", n);
+    lines::write(b"case ");
+    lines::number(n);
+    lines::write(b": ");
 }

@@ -5,13 +5,13 @@
 
 mod inputs;
 mod pairs;
+mod rival;
 mod rows;
 mod table;
 
 use std::process::ExitCode;
 
-use cementoad::ffi;
-use table::Line;
+use cementoad_sys::check_archive;
 
 const RUNS: usize = 101;
 /// How often a run goes over a row's inputs.
@@ -26,26 +26,30 @@ fn main() -> ExitCode {
             return ExitCode::FAILURE;
         }
     };
-    ffi::check_archive();
+    check_archive();
     let wanted = arguments.next().unwrap_or_default();
     let mut rows = rows::rows();
     rows.retain(|row| row.name.contains(&wanted));
     println!(
-        "{}; {}. Each side ran {} times, the two in turn, with {} calls a run on {} different inputs. Told are the median \
-         and, in brackets, the quartiles of the runs; the ratio is the median over the pairs of runs.\n",
+        "{}; {}. Each side ran {} times, the two in turn, with {} calls a run on {} different inputs. Told are the \
+         median and, in brackets, the quartiles of the runs; the ratio is the median over the pairs of runs.\n",
         processor(),
         env!("COMPILER"),
         table::grouped(runs),
         table::grouped(PASSES * inputs::COUNT),
         table::grouped(inputs::COUNT),
     );
-    print!("{}", table::markdown(&measured(&mut rows, runs)));
+    println!("{}", table::HEAD);
+    let taken = measured(&mut rows, runs);
+    for (row, (library, plain)) in rows.iter().zip(taken) {
+        println!("{}", table::line(&row.name, &library, &plain));
+    }
     ExitCode::SUCCESS
 }
 
 /// All rows are gone over in turn, so that what disturbs the machine for a while falls on a few runs of every row. One
 /// pass before each run is not counted.
-fn measured(rows: &mut [rows::Row], runs: usize) -> Vec<Line> {
+fn measured(rows: &mut [rows::Row], runs: usize) -> Vec<(Vec<f64>, Vec<f64>)> {
     let mut taken = vec![(Vec::new(), Vec::new()); rows.len()];
     for _ in 0..runs {
         for (row, (library, plain)) in rows.iter_mut().zip(&mut taken) {
@@ -55,16 +59,12 @@ fn measured(rows: &mut [rows::Row], runs: usize) -> Vec<Line> {
             plain.push((row.plain)(PASSES));
         }
     }
-    let told = rows.iter().zip(&taken);
-    told.map(|(row, (library, plain))| Line::of(&row.name, library, plain))
-        .collect()
+    taken
 }
 
 /// The processor's name as Linux tells it.
 fn processor() -> String {
     let told = std::fs::read_to_string("/proc/cpuinfo").unwrap_or_default();
-    let name = told
-        .lines()
-        .find_map(|line| line.strip_prefix("model name")?.split_once(": "));
+    let name = told.lines().find_map(|line| line.strip_prefix("model name")?.split_once(": "));
     name.map_or("unknown processor", |(_, name)| name).into()
 }

@@ -1,13 +1,13 @@
 //! The rows of the table: an operation, its inputs, and how each side is called and timed.
 
+use std::fmt::Debug;
 use std::hint::black_box;
 use std::time::Instant;
 
-use cementoad::ffi;
-use second::{LONGEST_SLIP, Right, Rules, SlipRules};
+use cementoad_sys::{self as ffi, LONGEST_SLIP, RATE, SYNTHETIC};
 
-use crate::inputs::{self, Asking, COUNT, Dice, Distance, Slip, Sort, Updating, Writing};
-use crate::pairs::{Answer, raw};
+use crate::inputs::{self, Asking, COUNT, Dice, Distance::*, FULL, Slip, Updating, Writing};
+use crate::rival;
 
 /// Goes over a row's inputs as often as told, and answers the nanoseconds a call.
 type Side = Box<dyn FnMut(usize) -> f64>;
@@ -20,58 +20,48 @@ pub struct Row {
 
 /// The rows, in the table's order.
 pub fn rows() -> Vec<Row> {
-    let dice = &mut Dice::new(1);
+    let dice = &mut Dice(1);
     vec![
         loop_alone("no call: the loop alone"),
         empty("empty call: the length of a slip of word 0"),
-        started("started, which tests the clock", inputs::askings(dice, Distance::Near)),
+        started("started, which tests the clock", inputs::askings(dice, Near)),
         creation("creation", inputs::creations(dice)),
         reading("reading, before the start", inputs::resting(dice)),
-        reading("reading, near", inputs::askings(dice, Distance::Near)),
-        reading("reading, far", inputs::askings(dice, Distance::Far)),
+        reading("reading, near", inputs::askings(dice, Near)),
+        reading("reading, far", inputs::askings(dice, Far)),
         reading("reading, refused (1, 2, 12)", inputs::refused_readings(dice)),
-        details("details", inputs::askings(dice, Distance::Near)),
-        update("update: set, near", inputs::sets(dice, Distance::Near)),
-        update("update: set, far", inputs::sets(dice, Distance::Far)),
-        update("update: rate only, near", inputs::rates(dice, Distance::Near)),
-        update("update: rate only, far", inputs::rates(dice, Distance::Far)),
+        details("details", inputs::askings(dice, Near)),
+        update("update: set, near", inputs::sets(dice, Near)),
+        update("update: set, far", inputs::sets(dice, Far)),
+        update("update: rate only, near", inputs::rates(dice, Near)),
+        update("update: rate only, far", inputs::rates(dice, Far)),
         update("update, refused (1 to 11)", inputs::refused_requests(dice)),
-        update(
-            "update, refused (12 to 14), near",
-            inputs::refused_lines(dice, Distance::Near),
-        ),
-        update(
-            "update, refused (12 to 14), far",
-            inputs::refused_lines(dice, Distance::Far),
-        ),
-        slip_reading(
-            "slip reading: all four fields, 27 bytes",
-            inputs::slips(dice, Sort::Full),
-        ),
-        slip_reading("slip reading: set, 10 bytes", inputs::slips(dice, Sort::Set)),
-        slip_reading("slip reading: rate, 4 bytes", inputs::slips(dice, Sort::Rate)),
+        update("update, refused (12 to 14), near", inputs::refused_lines(dice, Near)),
+        update("update, refused (12 to 14), far", inputs::refused_lines(dice, Far)),
+        slip_reading("slip reading: all four fields, 27 bytes", inputs::slips(dice, FULL)),
+        slip_reading("slip reading: set, 10 bytes", inputs::slips(dice, SYNTHETIC)),
+        slip_reading("slip reading: rate, 4 bytes", inputs::slips(dice, RATE)),
         slip_reading("slip reading, refused (3, 6, 18, 19, 20)", inputs::refused_slips(dice)),
-        slip_writing(
-            "slip writing: all four fields, 27 bytes",
-            inputs::writings(dice, Sort::Full),
-        ),
-        slip_writing("slip writing: set, 10 bytes", inputs::writings(dice, Sort::Set)),
-        slip_writing("slip writing: rate, 4 bytes", inputs::writings(dice, Sort::Rate)),
+        slip_writing("slip writing: all four fields, 27 bytes", inputs::writings(dice, FULL)),
+        slip_writing("slip writing: set, 10 bytes", inputs::writings(dice, SYNTHETIC)),
+        slip_writing("slip writing: rate, 4 bytes", inputs::writings(dice, RATE)),
         slip_writing("slip writing, refused (3, 5, 6, 21)", inputs::refused_writings(dice)),
     ]
 }
 
-/// A row whose sides answered alike on all of its inputs.
-fn row<L: 'static, P: 'static, A: Answer>(
+/// A row of inputs, as each side takes them, on all of which the sides answered alike. `widened` gives the library's
+/// answer in the rival's numbers.
+fn row<L: 'static, P: 'static, A, B: PartialEq + Debug>(
     name: &str,
-    inputs: Vec<(L, P)>,
+    inputs: impl IntoIterator<Item = (L, P)>,
     mut library: impl FnMut(&L) -> A + 'static,
-    mut plain: impl FnMut(&P) -> A::Plain + 'static,
+    mut plain: impl FnMut(&P) -> B + 'static,
+    widened: impl Fn(A) -> B,
 ) -> Row {
-    assert_eq!(inputs.len(), COUNT);
     let (library_inputs, plain_inputs): (Vec<L>, Vec<P>) = inputs.into_iter().unzip();
+    assert_eq!(library_inputs.len(), COUNT);
     for (left, right) in library_inputs.iter().zip(&plain_inputs) {
-        assert_eq!(library(left).plainly(), plain(right), "{name}");
+        assert_eq!(widened(library(left)), plain(right), "{name}");
     }
     Row {
         name: name.into(),
@@ -94,94 +84,103 @@ fn time<I, O>(inputs: &[I], passes: usize, mut call: impl FnMut(&I) -> O) -> f64
 
 /// What the loop takes, and what is in every other number as well.
 fn loop_alone(name: &str) -> Row {
-    row(name, vec![(0, 0); COUNT], |&word: &usize| word, |&word: &usize| word)
+    let alone = |&word: &usize| word;
+    row(name, [(0, 0); COUNT], alone, alone, |word| word)
 }
 
 fn empty(name: &str) -> Row {
     row(
         name,
-        vec![(0, 0); COUNT],
-        |&word: &u64| ffi::cementoad_slip_length(word),
-        |&word: &u64| second::slip_length(word),
+        [(0, 0); COUNT],
+        |&word| ffi::cementoad_slip_length(word),
+        |&word| rival::slip_length(word),
+        |length| length,
     )
 }
 
 fn creation(name: &str, inputs: Vec<(u8, i64, i64)>) -> Row {
     row(
         name,
-        inputs.into_iter().map(|input| (input, input)).collect(),
+        inputs.into_iter().map(|input| (input, input)),
         |&(word, backstop, now)| ffi::cementoad_create(word, backstop, now),
-        |&(word, backstop, now)| Right.create(word, backstop, now),
+        |&(word, backstop, now)| rival::create(word, backstop, now),
+        |created| (created.refusal, created.clock.into()),
     )
 }
 
 /// A clock and a time, as each side takes them.
-fn split(inputs: Vec<Asking>) -> Vec<((ffi::Clock, i64), (second::Clock, i64))> {
-    let sides = |Asking { clocks, now }| ((clocks.library, now), (clocks.plain, now));
-    inputs.into_iter().map(sides).collect()
+fn sides((clock, now): Asking) -> (Asking, (rival::Clock, i64)) {
+    ((clock, now), (clock.into(), now))
 }
 
 fn started(name: &str, inputs: Vec<Asking>) -> Row {
     row(
         name,
-        split(inputs),
+        inputs.into_iter().map(sides),
         |(clock, _)| ffi::cementoad_is_started(*clock),
-        |(clock, _)| Right.started(clock),
+        |(clock, _)| rival::started(clock),
+        |started| started,
     )
 }
 
 fn reading(name: &str, inputs: Vec<Asking>) -> Row {
     row(
         name,
-        split(inputs),
+        inputs.into_iter().map(sides),
         |(clock, now)| ffi::cementoad_read(*clock, *now),
-        |(clock, now)| Right.read(clock, *now),
+        |(clock, now)| rival::read(clock, *now),
+        |reading| (reading.refusal, reading.value.into()),
     )
 }
 
 fn details(name: &str, inputs: Vec<Asking>) -> Row {
     row(
         name,
-        split(inputs),
+        inputs.into_iter().map(sides),
         |(clock, now)| ffi::cementoad_get_details(*clock, *now),
-        |(clock, now)| Right.details(clock, *now),
+        |(clock, now)| rival::details(clock, *now),
+        |detailed| (detailed.refusal, detailed.details.into()),
     )
 }
 
 fn update(name: &str, inputs: Vec<Updating>) -> Row {
-    let sides = |Updating { clocks, request, now }| ((clocks.library, raw(request), now), (clocks.plain, request, now));
+    let sides = |(clock, request, now): Updating| ((clock, request, now), (clock.into(), request, now));
     row(
         name,
-        inputs.into_iter().map(sides).collect(),
+        inputs.into_iter().map(sides),
         |(clock, request, now)| ffi::cementoad_update(*clock, *request, *now),
-        |(clock, request, now)| Right.update(clock, request, *now),
+        |(clock, request, now)| rival::update(clock, request, *now),
+        |updated| (updated.refusal, updated.clock.into()),
     )
 }
 
 fn slip_reading(name: &str, inputs: Vec<Slip>) -> Row {
     row(
         name,
-        inputs.into_iter().map(|slip| (slip, slip)).collect(),
-        |slip: &Slip| read_slip(slip.bytes()),
-        |slip: &Slip| Right.read_slip(slip.bytes()),
+        inputs.into_iter().map(|slip| (slip, slip)),
+        |slip| read_slip(slip.bytes()),
+        |slip| rival::read_slip(slip.bytes()),
+        |received| (received.refusal, received.request),
     )
 }
 
-/// Each side has one buffer, filled with zeros once and not cleared between calls.
+/// Each side has one buffer, filled with zeros once and not cleared between calls. What the sides write is compared in
+/// buffers without zeros, where a byte that is cleared shows.
 fn slip_writing(name: &str, inputs: Vec<Writing>) -> Row {
+    for (request, size) in &inputs {
+        let [mut left, mut right] = [[0xA5; LONGEST_SLIP]; 2];
+        write_slip(request, &mut left[..*size]);
+        rival::write_slip(request, &mut right[..*size]);
+        assert_eq!(left, right, "{name}");
+    }
     let mut library_buffer = [0; LONGEST_SLIP];
     let mut plain_buffer = [0; LONGEST_SLIP];
-    for Writing { request, size } in &inputs {
-        write_slip(&raw(*request), &mut library_buffer[..*size]);
-        Right.write_slip(request, &mut plain_buffer[..*size]);
-        assert_eq!(library_buffer, plain_buffer, "{name}");
-    }
-    let sides = |Writing { request, size }| ((raw(request), size), (request, size));
     row(
         name,
-        inputs.into_iter().map(sides).collect(),
+        inputs.into_iter().map(|input| (input, input)),
         move |(request, size)| write_slip(request, &mut black_box(&mut library_buffer)[..*size]),
-        move |(request, size)| Right.write_slip(request, &mut black_box(&mut plain_buffer)[..*size]),
+        move |(request, size)| rival::write_slip(request, &mut black_box(&mut plain_buffer)[..*size]),
+        |written| (written.refusal, written.length),
     )
 }
 
@@ -193,4 +192,32 @@ fn read_slip(bytes: &[u8]) -> ffi::Received {
 fn write_slip(request: &ffi::Request, buffer: &mut [u8]) -> ffi::Written {
     // SAFETY: pointer and size are those of one slice that is lent for writing.
     unsafe { ffi::cementoad_write_slip(*request, buffer.as_mut_ptr(), buffer.len()) }
+}
+
+#[cfg(test)]
+mod tests {
+    use super::*;
+    use ffi::{REFERENCE, Request, VERSION_2};
+
+    /// A row is made only where both sides answer alike on all of its inputs.
+    #[test]
+    fn both_sides_answer_alike() {
+        assert_eq!(rows().len(), 24);
+    }
+
+    /// No row has a time before the line's reference, where a value is rounded away from 0.
+    #[test]
+    fn both_sides_read_alike_before_the_reference() {
+        for rate in [-1000, -1, 0, 1, 1000] {
+            let word = VERSION_2 | SYNTHETIC | REFERENCE | RATE;
+            let set = Request { word, synthetic: 5000, reference: 4000, rate, error: 0 };
+            let clock = ffi::cementoad_create(0, 0, 0).clock;
+            let (library, plain) = (ffi::cementoad_update(clock, set, 0), rival::update(&clock.into(), &set, 0));
+            assert_eq!((library.refusal, library.clock.into()), plain);
+            for now in 0..=4000 {
+                let reading = ffi::cementoad_read(library.clock, now);
+                assert_eq!((reading.refusal, reading.value.into()), rival::read(&plain.1, now));
+            }
+        }
+    }
 }

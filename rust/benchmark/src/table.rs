@@ -1,75 +1,31 @@
 //! What many runs come to, and how it is printed.
 
-/// What the runs of one side took, in nanoseconds a call.
-#[derive(Clone, Copy, Debug, PartialEq)]
-pub struct Spread {
-    pub lower: f64,
-    pub median: f64,
-    pub upper: f64,
-}
-
-impl Spread {
-    /// The median and the quartiles of at least one run.
-    pub fn of(runs: &[f64]) -> Spread {
-        let mut sorted = runs.to_vec();
-        sorted.sort_by(f64::total_cmp);
-        Spread {
-            lower: quantile(&sorted, 0.25),
-            median: quantile(&sorted, 0.5),
-            upper: quantile(&sorted, 0.75),
-        }
-    }
-
-    fn told(&self) -> String {
-        format!("{:.1} ({:.1} to {:.1})", self.median, self.lower, self.upper)
-    }
-}
-
-/// The number below which `part` of the sorted numbers lie, between two neighbours in proportion.
-fn quantile(sorted: &[f64], part: f64) -> f64 {
+/// The number below which `part` of at least one number lie, between two neighbours in proportion.
+fn quantile(numbers: &[f64], part: f64) -> f64 {
+    let mut sorted = numbers.to_vec();
+    sorted.sort_by(f64::total_cmp);
     let place = part * (sorted.len() - 1) as f64;
     let below = sorted[place.floor() as usize];
     let above = sorted[place.ceil() as usize];
     below + (above - below) * place.fract()
 }
 
-/// An operation with its inputs, and what each side took. A ratio below 1 says that the library is quicker.
-#[derive(Debug, PartialEq)]
-pub struct Line {
-    name: String,
-    library: Spread,
-    plain: Spread,
-    ratio: f64,
+/// What the runs of one side took, in nanoseconds a call: the median and the quartiles.
+fn told(runs: &[f64]) -> String {
+    let [lower, median, upper] = [0.25, 0.5, 0.75].map(|part| quantile(runs, part));
+    format!("{median:.1} ({lower:.1} to {upper:.1})")
 }
 
-impl Line {
-    /// The line of runs taken in turn. The ratio is taken run by run: what slows the machine for a while slows both runs of
-    /// a pair.
-    pub fn of(name: &str, library: &[f64], plain: &[f64]) -> Line {
-        let ratios: Vec<f64> = library.iter().zip(plain).map(|(left, right)| left / right).collect();
-        Line {
-            name: name.into(),
-            library: Spread::of(library),
-            plain: Spread::of(plain),
-            ratio: Spread::of(&ratios).median,
-        }
-    }
-}
+/// The table's head in Markdown.
+pub const HEAD: &str =
+    "| operation and inputs | library, ns a call | plain Rust, ns a call | ratio |\n|---|---:|---:|---:|";
 
-/// The table in Markdown.
-pub fn markdown(lines: &[Line]) -> String {
-    let heads = [
-        "operation and inputs",
-        "library, ns a call",
-        "plain Rust, ns a call",
-        "ratio",
-    ];
-    let mut text = format!("| {} |\n|---|---:|---:|---:|\n", heads.join(" | "));
-    for line in lines {
-        let (library, plain) = (line.library.told(), line.plain.told());
-        text += &format!("| {} | {library} | {plain} | {:.2} |\n", line.name, line.ratio);
-    }
-    text
+/// The table's line of an operation with its inputs. The ratio, below 1 where the library is quicker, is taken run by
+/// run: what slows the machine for a while slows both runs of a pair.
+pub fn line(name: &str, library: &[f64], plain: &[f64]) -> String {
+    let ratios: Vec<f64> = library.iter().zip(plain).map(|(left, right)| left / right).collect();
+    let ratio = quantile(&ratios, 0.5);
+    format!("| {name} | {} | {} | {ratio:.2} |", told(library), told(plain))
 }
 
 /// A number with commas between its thousands.
@@ -89,62 +45,19 @@ pub fn grouped(number: usize) -> String {
 mod tests {
     use super::*;
 
-    fn spread(lower: f64, median: f64, upper: f64) -> Spread {
-        Spread { lower, median, upper }
-    }
-
     #[test]
-    fn median_and_quartiles_of_an_odd_count() {
-        assert_eq!(Spread::of(&[5.0, 1.0, 4.0, 2.0, 3.0]), spread(2.0, 3.0, 4.0));
-    }
-
-    #[test]
-    fn median_and_quartiles_of_an_even_count() {
-        assert_eq!(Spread::of(&[4.0, 1.0, 3.0, 2.0]), spread(1.75, 2.5, 3.25));
-    }
-
-    #[test]
-    fn one_run_is_its_own_median() {
-        assert_eq!(Spread::of(&[7.5]), spread(7.5, 7.5, 7.5));
-    }
-
-    #[test]
-    fn one_wild_run_leaves_the_median() {
-        assert_eq!(Spread::of(&[3.0, 3.0, 900.0, 3.0, 3.0]), spread(3.0, 3.0, 3.0));
+    fn runs_come_to_median_and_quartiles() {
+        assert_eq!(told(&[5.0, 1.0, 4.0, 2.0, 3.0]), "3.0 (2.0 to 4.0)");
+        assert_eq!(told(&[4.6, 1.0, 3.0, 2.2]), "2.6 (1.9 to 3.4)");
+        assert_eq!(told(&[7.5]), "7.5 (7.5 to 7.5)");
+        assert_eq!(told(&[3.0, 3.0, 900.0, 3.0, 3.0]), "3.0 (3.0 to 3.0)");
     }
 
     /// The machine is slow for the last pair; the ratio of the medians would be 2 / 6.
     #[test]
     fn the_ratio_is_taken_pair_by_pair() {
-        let line = Line::of("reading", &[1.0, 2.0, 6.0], &[2.0, 6.0, 12.0]);
-        assert_eq!(line.library, spread(1.5, 2.0, 4.0));
-        assert_eq!(line.plain, spread(4.0, 6.0, 9.0));
-        assert_eq!(line.ratio, 0.5);
-    }
-
-    #[test]
-    fn a_table_of_two_lines() {
-        let lines = [
-            Line {
-                name: "reading, near".into(),
-                library: spread(4.96, 5.0, 5.25),
-                plain: spread(9.0, 10.0, 11.0),
-                ratio: 0.5,
-            },
-            Line {
-                name: "slip read".into(),
-                library: spread(100.0, 200.0, 300.0),
-                plain: spread(60.0, 80.04, 90.0),
-                ratio: 2.498,
-            },
-        ];
-        assert_eq!(
-            markdown(&lines),
-            "| operation and inputs | library, ns a call | plain Rust, ns a call | ratio |\n\
-             |---|---:|---:|---:|\n\
-             | reading, near | 5.0 (5.0 to 5.2) | 10.0 (9.0 to 11.0) | 0.50 |\n\
-             | slip read | 200.0 (100.0 to 300.0) | 80.0 (60.0 to 90.0) | 2.50 |\n"
-        );
+        let line = line("reading, near", &[1.0, 2.0, 6.0], &[2.0, 6.0, 12.0]);
+        assert_eq!(line, "| reading, near | 2.0 (1.5 to 4.0) | 6.0 (4.0 to 9.0) | 0.50 |");
     }
 
     #[test]

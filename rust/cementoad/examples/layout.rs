@@ -1,9 +1,9 @@
-//! Prints what the crate declares: each struct and field with its place and size, each constant, and each refusal with
-//! its public name. `examples/c/layout.c` prints the same lines from the C header.
+//! Prints what is declared for Rust: each struct and field with its place and size, each constant, and each refusal
+//! with its public name. `examples/c/layout.c` prints the same lines from the C header.
 
 use std::mem::offset_of;
 
-use cementoad::{Clock, Refusal, Request, ffi};
+use cementoad::{Refusal, ffi};
 
 /// Prints a struct's lines. The pattern names every field, so that none can be left out.
 macro_rules! layout {
@@ -36,31 +36,24 @@ fn structs() {
     layout!(written Written: length, refusal);
 }
 
+/// Prints a line for each constant.
+macro_rules! constants {
+    ($($name:ident)+) => {
+        $(println!("{} {}", stringify!($name), ffi::$name);)+
+    };
+}
+
 fn constants() {
-    println!("ABI {}", ffi::ABI);
-    println!("END {}", Clock::END);
-    println!("MAX_RATE {}", Clock::MAX_RATE);
-    println!("UNKNOWN_ERROR {}", Clock::UNKNOWN_ERROR);
-    println!("LONGEST_SLIP {}", Request::LONGEST_SLIP);
-    println!("MONOTONIC {}", Clock::MONOTONIC);
-    println!("CONTINUOUS {}", Clock::CONTINUOUS);
-    println!("AUTO_START {}", Clock::AUTO_START);
-    println!("VERSION_2 {}", Request::VERSION_2);
-    println!("SYNTHETIC {}", Request::SYNTHETIC);
-    println!("REFERENCE {}", Request::REFERENCE);
-    println!("RATE {}", Request::RATE);
-    println!("ERROR {}", Request::ERROR);
+    constants!(ABI END MAX_RATE UNKNOWN_ERROR LONGEST_SLIP);
+    constants!(MONOTONIC CONTINUOUS AUTO_START);
+    constants!(VERSION_2 SYNTHETIC REFERENCE RATE ERROR);
 }
 
 fn refusals() {
     println!("refusal {} NO_REFUSAL NO_REFUSAL", ffi::NO_REFUSAL);
     for refusal in Refusal::ALL {
-        println!(
-            "refusal {} {} {}",
-            refusal.number(),
-            refusal.name(),
-            refusal.public_name()
-        );
+        let (number, name) = (refusal.number(), refusal.name());
+        println!("refusal {number} {name} {}", refusal.public_name());
     }
     println!("refusal {} NOT_A_CLOCK NOT_A_CLOCK", ffi::NOT_A_CLOCK);
 }

@@ -1,9 +1,8 @@
 //! Clocks, and what they tell of themselves.
 
-use crate::abi::check_archive;
-use crate::ffi::{self, Details};
+use crate::archive::check_archive;
 use crate::refusal::check;
-use crate::{Refusal, Request};
+use crate::{Details, Refusal, Request, ffi};
 
 /// A clock that creation gave and accepted updates carried on. It can be had in no other way.
 ///
@@ -30,25 +29,25 @@ pub struct Clock {
 
 impl Clock {
     /// The end of the range of times and values, 2^61 - 1.
-    pub const END: i64 = (1 << 61) - 1;
+    pub const END: i64 = ffi::END;
 
     /// The widest rate adjustment, in parts per million.
-    pub const MAX_RATE: i32 = 1000;
+    pub const MAX_RATE: i32 = ffi::MAX_RATE;
 
     /// The error bound that means unknown.
-    pub const UNKNOWN_ERROR: u64 = u64::MAX;
+    pub const UNKNOWN_ERROR: u64 = ffi::UNKNOWN_ERROR;
 
     /// The bit of a creation word for a clock whose readings never fall while the times don't.
-    pub const MONOTONIC: u8 = 128;
+    pub const MONOTONIC: u8 = ffi::MONOTONIC;
 
     /// The bit of a creation word for a clock whose line is never broken. It asks for `MONOTONIC` too.
-    pub const CONTINUOUS: u8 = 64;
+    pub const CONTINUOUS: u8 = ffi::CONTINUOUS;
 
     /// The bit of a creation word for a clock that starts at creation, as the line from 0 at 0.
-    pub const AUTO_START: u8 = 32;
+    pub const AUTO_START: u8 = ffi::AUTO_START;
 
-    /// A new clock, or refusal 1, 3, 15, 16 or 17. The word is made of `MONOTONIC`, `CONTINUOUS` and `AUTO_START`, or 0;
-    /// without `AUTO_START` the clock isn't started.
+    /// A new clock, or refusal 1, 3, 15, 16 or 17. The word is made of `MONOTONIC`, `CONTINUOUS` and `AUTO_START`, or
+    /// is 0; without `AUTO_START` the clock isn't started.
     ///
     /// ```
     /// use cementoad::{Clock, Refusal};
@@ -124,14 +123,17 @@ impl Clock {
     }
 
     /// Whether the clock is started.
+    ///
+    /// ```
+    /// use cementoad::{Clock, Request};
+    ///
+    /// let mut clock = Clock::create(0, 0, 0)?;
+    /// assert!(!clock.started());
+    /// clock.update(&Request::new().synthetic(0), 0)?;
+    /// assert!(clock.started());
+    /// # Ok::<(), cementoad::Refusal>(())
+    /// ```
     pub fn started(&self) -> bool {
         ffi::cementoad_is_started(self.raw)
-    }
-}
-
-impl Details {
-    /// The error bound in nanoseconds, or `None` where it is unknown.
-    pub fn error_bound(&self) -> Option<u64> {
-        (self.error != Clock::UNKNOWN_ERROR).then_some(self.error)
     }
 }

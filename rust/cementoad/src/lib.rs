@@ -26,9 +26,8 @@
 //! ```
 #![deny(missing_docs)]
 
-mod abi;
+mod archive;
 mod clock;
-pub mod ffi;
 mod refusal;
 mod request;
 
@@ -36,7 +35,8 @@ mod request;
 #[doc = include_str!("../../../README.md")]
 struct Readme;
 
+pub use cementoad_sys as ffi;
+pub use cementoad_sys::{Details, Line};
 pub use clock::Clock;
-pub use ffi::{Details, Line};
 pub use refusal::{Refusal, UnknownRefusal};
 pub use request::Request;

@@ -2,14 +2,14 @@
 
 use std::hash::{Hash, Hasher};
 
-use crate::Refusal;
-use crate::abi::check_archive;
-use crate::ffi;
+use crate::archive::check_archive;
 use crate::refusal::check;
+use crate::{Refusal, ffi};
 
 /// What an update is to change. It is built by naming that; what isn't named stays as it is.
 ///
-/// Two requests are equal when they have the same word and the same flagged arguments. One that isn't flagged is ignored.
+/// Two requests are equal when they have the same word and the same flagged arguments. An argument that isn't flagged
+/// is ignored.
 ///
 /// ```
 /// use cementoad::{Clock, Request};
@@ -37,34 +37,26 @@ pub struct Request {
 
 impl Request {
     /// The version of an update word, its top six bits.
-    pub const VERSION_2: u64 = 2 << 58;
+    pub const VERSION_2: u64 = ffi::VERSION_2;
 
     /// The flag of the value to set.
-    pub const SYNTHETIC: u64 = 1 << 57;
+    pub const SYNTHETIC: u64 = ffi::SYNTHETIC;
 
     /// The flag of the reference time at which the new line starts.
-    pub const REFERENCE: u64 = 1 << 56;
+    pub const REFERENCE: u64 = ffi::REFERENCE;
 
     /// The flag of the rate adjustment.
-    pub const RATE: u64 = 1 << 55;
+    pub const RATE: u64 = ffi::RATE;
 
     /// The flag of the error bound.
-    pub const ERROR: u64 = 1 << 54;
+    pub const ERROR: u64 = ffi::ERROR;
 
     /// The bytes of the longest slip.
-    pub const LONGEST_SLIP: usize = 27;
+    pub const LONGEST_SLIP: usize = ffi::LONGEST_SLIP;
 
     /// A request of version 2 that flags nothing yet.
     pub const fn new() -> Request {
-        Request {
-            raw: ffi::Request {
-                word: Request::VERSION_2,
-                synthetic: 0,
-                reference: 0,
-                rate: 0,
-                error: 0,
-            },
-        }
+        Request { raw: ffi::Request { word: Request::VERSION_2, synthetic: 0, reference: 0, rate: 0, error: 0 } }
     }
 
     /// Sets the clock to this value, in nanoseconds.
@@ -124,6 +116,7 @@ impl Request {
     /// assert_eq!(Request::from_slip(&[0x08, 0x80, 0x7a, 0x20]), Ok(Request::new().rate(-23)));
     /// assert_eq!(Request::from_slip(&[0x08, 0x80, 0x7a]), Err(Refusal::SlipShort));
     /// assert_eq!(Request::from_slip(&[0x08, 0x80, 0x7a, 0x21]), Err(Refusal::PaddingSet));
+    /// assert_eq!(Request::from_slip(&[0x08, 0x80, 0x7a, 0x20, 0x00]), Err(Refusal::BytesLeftOver));
     /// ```
     pub fn from_slip(bytes: &[u8]) -> Result<Request, Refusal> {
         check_archive();
@@ -170,6 +163,12 @@ impl Request {
     }
 
     /// How many bytes a slip of this request has.
+    ///
+    /// ```
+    /// use cementoad::Request;
+    ///
+    /// assert_eq!(Request::new().rate(-23).slip_length(), 4);
+    /// ```
     pub fn slip_length(&self) -> usize {
         check_archive();
         ffi::cementoad_slip_length(self.raw.word)
@@ -186,13 +185,7 @@ impl Request {
 
     /// All that counts of a request.
     fn counted(&self) -> (u64, Option<i64>, Option<i64>, Option<i32>, Option<u64>) {
-        (
-            self.word(),
-            self.flagged_synthetic(),
-            self.flagged_reference(),
-            self.flagged_rate(),
-            self.flagged_error(),
-        )
+        (self.word(), self.flagged_synthetic(), self.flagged_reference(), self.flagged_rate(), self.flagged_error())
     }
 }
 

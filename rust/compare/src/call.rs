@@ -1,113 +1,47 @@
-//! The calls of a list. A call on a clock is on the clock as the call before left it.
+//! The calls of a list, and what either side answers.
 
-use std::fmt;
+use cementoad_sys::{Clock, Created, Detailed, NO_REFUSAL, Reading, Received, Request, Updated, Written};
 
-use crate::side::{Ask, Asking, Bytes, Clock, Request};
-
-#[derive(Clone, Debug, PartialEq, Eq)]
+/// A call with its arguments: word, backstop and now of a creation, else what the boundary takes beside the clock, which
+/// is as the call before left it. `Take` is no call: the list goes on with a clock made up by hand, which may be none.
+#[derive(Clone, Debug)]
 pub enum Call {
-    Create {
-        word: u8,
-        backstop: i64,
-        now: i64,
-    },
-    Read {
-        now: i64,
-    },
-    Update {
-        request: Request,
-        now: i64,
-    },
-    Details {
-        now: i64,
-    },
+    Take(Clock),
+    Create(u8, i64, i64),
+    Read(i64),
+    Details(i64),
+    Update(Request, i64),
     Started,
-    /// Not a call: a started clock goes on with the generation that very many replaced lines would have left it.
-    Age {
-        generation: u32,
-    },
-    /// All four kinds of calls on a clock made up by hand, which may be none. The list's own clock goes on.
-    MadeUp {
-        clock: Clock,
-        request: Request,
-        now: i64,
-    },
-    ReadSlip {
-        bytes: Vec<u8>,
-    },
-    WriteSlip {
-        request: Request,
-        buffer: Vec<u8>,
-    },
-    SlipLength {
-        word: u64,
-    },
+    ReadSlip(Vec<u8>),
+    WriteSlip(Request, Vec<u8>),
+    SlipLength(u64),
 }
 
-impl Call {
-    /// What is asked on the clock, none where it is not one question alone.
-    pub fn ask(&self, clock: Clock) -> Option<Ask<'_>> {
+/// All that comes back. A lent buffer comes back whole.
+#[derive(Clone, Debug, PartialEq, Eq)]
+pub enum Answer {
+    Taken,
+    Created(Created),
+    Read(Reading),
+    Detailed(Detailed),
+    Updated(Updated),
+    Started(bool),
+    Received(Received),
+    Written(Written, Vec<u8>),
+    Length(usize),
+}
+
+impl Answer {
+    /// The refusal's number, 0 where there is none.
+    pub fn refusal(&self) -> u8 {
         match self {
-            &Call::Create { word, backstop, now } => Some(Ask::Create { word, backstop, now }),
-            &Call::Read { now } => Some(Ask::Read { clock, now }),
-            &Call::Update { request, now } => Some(Ask::Update { clock, request, now }),
-            &Call::Details { now } => Some(Ask::Details { clock, now }),
-            Call::Started => Some(Ask::Started { clock }),
-            Call::ReadSlip { bytes } => Some(Ask::ReadSlip { bytes }),
-            &Call::WriteSlip { request, ref buffer } => Some(Ask::WriteSlip { request, buffer }),
-            &Call::SlipLength { word } => Some(Ask::SlipLength { word }),
-            Call::Age { .. } | Call::MadeUp { .. } => None,
+            Answer::Created(created) => created.refusal,
+            Answer::Read(reading) => reading.refusal,
+            Answer::Detailed(detailed) => detailed.refusal,
+            Answer::Updated(updated) => updated.refusal,
+            Answer::Received(received) => received.refusal,
+            Answer::Written(written, _) => written.refusal,
+            Answer::Taken | Answer::Started(_) | Answer::Length(_) => NO_REFUSAL,
         }
-    }
-}
-
-impl fmt::Display for Call {
-    fn fmt(&self, f: &mut fmt::Formatter) -> fmt::Result {
-        match self {
-            Call::Create { word, backstop, now } => {
-                write!(
-                    f,
-                    "create: word {word}{}, backstop {backstop}, at {now}",
-                    word_bits(*word)
-                )
-            }
-            Call::Read { now } => write!(f, "read at {now}"),
-            Call::Update { request, now } => write!(f, "update at {now}: {}", Asking(request)),
-            Call::Details { now } => write!(f, "details at {now}"),
-            Call::Started => write!(f, "started"),
-            Call::Age { generation } => write!(f, "(the generation becomes {generation})"),
-            Call::MadeUp { clock, request, now } => {
-                write!(f, "at {now} on a clock made up of {clock}: {}", Asking(request))
-            }
-            Call::ReadSlip { bytes } => write!(f, "read slip {}", Bytes(bytes)),
-            Call::WriteSlip { request, buffer } => {
-                write!(
-                    f,
-                    "write slip to {} bytes {}: {}",
-                    buffer.len(),
-                    Bytes(buffer),
-                    Asking(request)
-                )
-            }
-            Call::SlipLength { word } => write!(f, "slip length of word {word:#018x}"),
-        }
-    }
-}
-
-fn word_bits(word: u8) -> String {
-    let names = [
-        (second::MONOTONIC, "monotonic"),
-        (second::CONTINUOUS, "continuous"),
-        (second::AUTO_START, "auto start"),
-    ];
-    let set: Vec<&str> = names
-        .iter()
-        .filter(|(bit, _)| word & bit != 0)
-        .map(|&(_, name)| name)
-        .collect();
-    if set.is_empty() {
-        String::new()
-    } else {
-        format!(" ({})", set.join(", "))
     }
 }

@@ -1,16 +1,15 @@
-//! The customer's demands 2 and 3, held against one clock's answers. This knows the calls' arguments and which were accepted.
+//! The customer's demands 2 and 3, held against one clock's answers.
 
-use second::{CONTINUOUS, Ideal, MONOTONIC};
+use cementoad_sys::{CONTINUOUS, Clock, MONOTONIC, Request};
+use second::{Ideal, ideal_after, ideal_at_creation};
 
-use crate::second_side::value;
-use crate::side::{Clock, Request};
+use crate::convert::{value, wide_request};
 
 /// What is remembered of one clock's history.
-#[derive(Clone, Copy, Debug, Default)]
 pub struct Witness {
     word: u8,
     backstop: i64,
-    ideal: Ideal,
+    ideal: Option<Ideal>,
     /// The time of the latest accepted update or reading, and the latest reading since those times last fell.
     time: i64,
     reading: Option<i64>,
@@ -19,63 +18,46 @@ pub struct Witness {
 impl Witness {
     /// A new clock.
     pub fn created(word: u8, backstop: i64, now: i64) -> Self {
-        Witness {
-            word,
-            backstop,
-            ideal: Ideal::create(word, true),
-            time: now,
-            reading: None,
-        }
+        Witness { word, backstop, ideal: ideal_at_creation(word), time: now, reading: None }
     }
 
     /// A reading that is not refused.
     pub fn reads(&mut self, now: i64, reading: i64) -> Result<(), String> {
         if reading < self.backstop {
-            return Err(format!(
-                "demand 2: the reading {reading} is below the backstop {}",
-                self.backstop
-            ));
+            return Err(format!("demand 2: the reading {reading} is below the backstop {}", self.backstop));
         }
         self.goes_to(now);
-        if let Some(before) = self
-            .reading
-            .filter(|&before| self.word & MONOTONIC != 0 && reading < before)
-        {
-            return Err(format!(
-                "demand 2: the monotonic clock's reading fell from {before} to {reading}"
-            ));
+        let before = self.reading.replace(reading).unwrap_or(reading);
+        if self.word & MONOTONIC != 0 && reading < before {
+            return Err(format!("demand 2: the readings fell from {before} to {reading}"));
         }
-        self.reading = Some(reading);
-        match self.ideal.line {
-            Some(line) if !line.bounds(reading.into(), now.into()) => Err(format!(
-                "demand 3: the reading {reading} at {now} against {line:?}, {} there",
-                line.value(now.into())
-            )),
+        match self.ideal {
+            Some(ideal) if !ideal.bounds(reading.into(), now.into()) => {
+                Err(format!("demand 3: the reading {reading} beside {ideal:?}, {} there", ideal.value(now.into())))
+            }
             _ => Ok(()),
         }
     }
 
-    /// An update that is not refused, with the clock before and after it. The ideal line hears of no other call.
-    pub fn updated(&mut self, request: &Request, now: i64, before: &Clock, after: &Clock) -> Result<(), String> {
+    /// Any update, for the ideal line: its arguments and whether it was accepted.
+    pub fn hears(&mut self, request: &Request, now: i64, accepted: bool) {
+        self.ideal = ideal_after(self.ideal, &wide_request(request), now, accepted);
+    }
+
+    /// An update that is not refused, with the clock before and after it.
+    pub fn updated(&mut self, now: i64, before: &Clock, after: &Clock) -> Result<(), String> {
         self.goes_to(now);
-        self.ideal.update(request, now, true);
         let running = self.word & CONTINUOUS != 0 && before.started == 1;
         if running && value(&before.line, now) != value(&after.line, now) {
-            return Err(format!(
-                "demand 2: the continuous clock's lines {} and {} part at {now}",
-                before.line, after.line
-            ));
+            return Err(format!("demand 2: the lines part at {now}: {before:?}, {after:?}"));
         }
         Ok(())
     }
 
     /// There is an ideal line exactly when the clock is started, so that demand 3 is never passed over.
     pub fn runs_beside(&self, clock: &Clock) -> Result<(), String> {
-        if self.ideal.line.is_some() != (clock.started == 1) {
-            return Err(format!(
-                "demand 3: the ideal line is {:?} beside a clock of {clock}",
-                self.ideal.line
-            ));
+        if self.ideal.is_some() != (clock.started == 1) {
+            return Err(format!("demand 3: the ideal line is {:?} beside {clock:?}", self.ideal));
         }
         Ok(())
     }

@@ -1,915 +1,329 @@
-//! Lists written from 01: each boundary of each refusal just inside and just outside, the orders of checks that can be seen, and the
-//! worked cases; and clocks made up by hand. Beside each call stands its refusal's number, 0 where it is accepted.
+//! Lists written from 01: the worked cases, each refusal just inside and just outside, the orders of checks that can be
+//! seen, effects that are easily got wrong, and slips. Beside each call stands its refusal's number, 0 where it is
+//! accepted, and beside some readings their value.
 
-mod made_up;
+use cementoad_sys::*;
 
-use second::{AUTO_START, CONTINUOUS, END, ERROR, LONGEST_SLIP, MONOTONIC, RATE, REFERENCE, SYNTHETIC, VERSION_2};
+use crate::call::Answer;
+use crate::call::Call::{self, Create, Details, Read, SlipLength, Started, Take, Update};
+use crate::convert::or_else;
+use crate::numbers::WORDS;
 
-use crate::call::Call;
-use crate::side::Request;
-
-const LAST: i64 = END as i64;
 const PLAIN: u8 = 0;
 const STEADY: u8 = MONOTONIC | CONTINUOUS;
 
-pub struct FixedList {
-    pub name: &'static str,
-    pub steps: Vec<(Call, u8)>,
+/// A call with its refusal's number, 0 where it is accepted, and with its whole answer where that is told.
+pub struct Step {
+    pub call: Call,
+    pub refusal: u8,
+    pub answer: Option<Answer>,
 }
 
-fn list(name: &'static str, steps: &[(Call, u8)]) -> FixedList {
-    FixedList {
-        name,
-        steps: steps.to_vec(),
+impl From<Call> for Step {
+    fn from(call: Call) -> Step {
+        Step { call, refusal: NO_REFUSAL, answer: None }
     }
 }
 
-fn create(word: u8, backstop: i64, now: i64) -> Call {
-    Call::Create { word, backstop, now }
+/// Lists by their names.
+type Lists = Vec<(&'static str, Vec<Step>)>;
+
+/// Lists as rows: a name, then calls, with their numbers where they are refused.
+macro_rules! lists {
+    ($($name:literal: $($call:expr $(=> $refusal:literal)?),+;)+) => {
+        vec![$(($name, vec![$(Step { $(refusal: $refusal,)? ..Step::from($call) }),+])),+]
+    };
 }
 
-fn read(now: i64) -> Call {
-    Call::Read { now }
+pub fn fixed_lists() -> Lists {
+    let clocks = [worked_cases(), creations(), readings(), requests_refused(), lines_refused(), orders(), effects()];
+    let slips = [slips_read(), slips_written(), each_bit()];
+    clocks.into_iter().chain(slips).flatten().collect()
 }
 
-fn details(now: i64) -> Call {
-    Call::Details { now }
+fn answers(call: Call, answer: Answer) -> Step {
+    Step { call, refusal: NO_REFUSAL, answer: Some(answer) }
 }
 
-fn update(request: Request, now: i64) -> Call {
-    Call::Update { request, now }
+fn reads(now: i64, value: i64) -> Step {
+    answers(Read(now), Answer::Read(Reading { refusal: NO_REFUSAL, value }))
+}
+
+fn is_started(started: bool) -> Step {
+    answers(Started, Answer::Started(started))
+}
+
+/// The details of a clock of this word and backstop, with this line and latest time.
+fn tells(kind: (u8, i64), now: i64, line: (i64, i64, i32), error: u64, generation: u32, latest: i64) -> Step {
+    let (word, backstop) = kind;
+    let line = Line { reference: line.0, synthetic: line.1, rate: line.2 };
+    let started = word == AUTO_START || generation != 1;
+    let details = cementoad_sys::Details { started, line, error, generation, latest, word, backstop, now };
+    answers(Details(now), Answer::Detailed(Detailed { refusal: NO_REFUSAL, details }))
+}
+
+/// The request is written as these bytes.
+fn writes(request: Request, bytes: &[u8]) -> Step {
+    let written = Written { length: bytes.len(), refusal: NO_REFUSAL };
+    answers(write(request, bytes.len()), Answer::Written(written, bytes.to_vec()))
+}
+
+fn slip(bytes: &[u8]) -> Call {
+    Call::ReadSlip(bytes.to_vec())
+}
+
+fn write(request: Request, size: usize) -> Call {
+    Call::WriteSlip(request, vec![0xA5; size])
 }
 
 fn word(word: u64) -> Request {
-    Request {
-        word,
-        ..Request::default()
-    }
+    Request { word, ..Request::default() }
 }
 
 fn set(synthetic: i64) -> Request {
-    Request {
-        word: VERSION_2 | SYNTHETIC,
-        synthetic,
-        ..Request::default()
-    }
+    Request { synthetic, ..word(VERSION_2 | SYNTHETIC) }
 }
 
 fn rate(rate: i32) -> Request {
-    Request {
-        word: VERSION_2 | RATE,
-        rate,
-        ..Request::default()
-    }
+    Request { rate, ..word(VERSION_2 | RATE) }
 }
 
 fn error(error: u64) -> Request {
-    Request {
-        word: VERSION_2 | ERROR,
-        error,
-        ..Request::default()
-    }
+    Request { error, ..word(VERSION_2 | ERROR) }
 }
 
 /// The request with a reference as well.
 fn at(reference: i64, request: Request) -> Request {
-    Request {
-        reference,
-        word: request.word | REFERENCE,
-        ..request
-    }
+    Request { reference, word: request.word | REFERENCE, ..request }
 }
 
 /// The request with a rate as well.
-fn with_rate(rate: i32, request: Request) -> Request {
-    Request {
-        rate,
-        word: request.word | RATE,
-        ..request
-    }
+fn with(rate: i32, request: Request) -> Request {
+    Request { rate, word: request.word | RATE, ..request }
 }
 
 /// The request with its unflagged arguments outside their ranges.
-fn with_junk(request: Request) -> Request {
-    let junk = |flag, given, junk: i64| if request.flags(flag) { given } else { junk };
-    Request {
-        word: request.word,
-        synthetic: junk(SYNTHETIC, request.synthetic, -1),
-        reference: junk(REFERENCE, request.reference, LAST + 1),
-        rate: junk(RATE, request.rate.into(), 1001) as i32,
-        error: if request.flags(ERROR) { request.error } else { 7 },
+fn junk(request: Request) -> Request {
+    or_else(&request, &Request { word: 0, synthetic: -1, reference: END + 1, rate: 1001, error: 7 })
+}
+
+fn worked_cases() -> Lists {
+    let all = Request { word: VERSION_2 | (15 * ERROR), synthetic: 1, reference: 2, rate: 3, error: 4 };
+    lists! {
+        "case 1": Create(PLAIN, 0, 0), Update(set(1500), 100), reads(350, 1750);
+        "case 2": Create(PLAIN, 0, 0), Update(set(1500), 100), Update(rate(-23), 1_000_100),
+            reads(1_000_100, 1_001_500), reads(2_000_100, 2_001_477);
+        "case 3": Create(MONOTONIC | AUTO_START, 0, 0), Update(at(1_000_000_000, rate(100)), 2_000_000_000),
+            reads(2_000_000_000, 2_000_100_000);
+        "case 4": Create(MONOTONIC | AUTO_START, 0, 0), Update(at(1_000_000_000, rate(-100)), 2_000_000_000) => 14,
+            Update(at(3_000_000_000, rate(-100)), 2_000_000_000), reads(2_000_000_000, 2_000_100_000);
+        "case 5": Create(PLAIN, 0, 0), Update(with(1, at(10, set(10))), 9), reads(9, 8), reads(10, 10);
+        "case 6": Create(PLAIN, 0, 0), Update(with(-1, set(0)), 0), Update(rate(-1), 1), Update(rate(-1), 2),
+            reads(3, 0);
+        "case 7": Create(PLAIN, 0, 0), Update(set(1500), 100), Update(rate(1000), 350), Update(rate(1001), 350) => 6,
+            Update(rate(-1000), 350), Update(rate(-1001), 350) => 6;
+        "case 8": Create(PLAIN, 1000, 0), Update(set(999), 0) => 13, Update(set(1000), 0);
+        "case 9": Create(AUTO_START, 5, 4) => 17, Create(AUTO_START, 5, 5);
+        "case 10": Create(PLAIN, 0, 0), Update(set(END), 0), reads(0, END), Read(1) => 12;
+        "case 11": Create(MONOTONIC, 10, 0), Update(set(20), 0), reads(0, 20), Update(set(5), 0) => 13;
+        "case 12": writes(set(1500), b"\x0A\0\0\0\0\0\0\0\x2E\xE0"), writes(rate(-23), b"\x08\x80\x7A\x20");
+        "four arguments that differ":
+            writes(all, b"\x0B\xC0\0\0\0\0\0\0\0\x08\0\0\0\0\0\0\0\x9F\x58\0\0\0\0\0\0\0\x20");
+        "case 13": Create(PLAIN, 0, 0), Update(at(5, error(1)), 10) => 7, Update(set(9), 10),
+            Update(at(5, error(1)), 10) => 7, Create(STEADY | AUTO_START, 0, 0), Update(at(5, error(1)), 10) => 7,
+            Update(at(10, rate(1)), 10) => 9, Create(STEADY, 0, 0), Update(at(5, error(1)), 10) => 7;
+        "case 14": Create(MONOTONIC, 5, 10), Update(set(40), 20), reads(30, 50), Update(set(50), 30),
+            Update(set(49), 30) => 14;
     }
 }
 
-fn read_slip(bytes: &[u8]) -> Call {
-    Call::ReadSlip { bytes: bytes.to_vec() }
-}
-
-fn write_slip(request: Request, size: usize) -> Call {
-    Call::WriteSlip {
-        request,
-        buffer: vec![0xA5; size],
+fn creations() -> Lists {
+    lists! {
+        "create 1": Create(PLAIN, 0, i64::MIN) => 1, Create(PLAIN, 0, -1) => 1, Create(PLAIN, 0, 0),
+            Create(PLAIN, 0, END), Create(PLAIN, 0, END + 1) => 1, Create(PLAIN, 0, i64::MAX) => 1;
+        "create 16": Create(PLAIN, i64::MIN, 0) => 16, Create(PLAIN, -1, 0) => 16, Create(PLAIN, 0, 0),
+            Create(PLAIN, END, 0), Create(PLAIN, END + 1, 0) => 16, Create(PLAIN, i64::MAX, 0) => 16;
+        "create 17": Create(AUTO_START, 1, 0) => 17, Create(AUTO_START, 0, 0), Create(AUTO_START, END, END),
+            Create(AUTO_START, END, END - 1) => 17, Create(PLAIN, END, END - 1);
+        "create in order": Create(1, 0, -1) => 1, Create(CONTINUOUS | 1, 0, 0) => 3, Create(CONTINUOUS, -1, 0) => 15,
+            Create(AUTO_START, END + 1, 0) => 16, Create(AUTO_START, 1, -1) => 1;
+        "no clock": Create(1, 0, 0) => 3, Read(0) => 255, Details(0) => 255, Read(-1) => 255, is_started(false),
+            Update(set(1), 0) => 255;
     }
 }
 
-pub fn fixed_lists() -> Vec<FixedList> {
-    let mut lists = worked_cases();
-    lists.extend(creations());
-    lists.extend(readings());
-    lists.extend(update_checks_before_the_line());
-    lists.extend(update_checks_of_the_line());
-    lists.extend(update_orders());
-    lists.extend(effects());
-    lists.extend(slips_read());
-    lists.extend(slips_written());
-    lists.extend(slip_lengths());
-    lists.extend(made_up::made_up());
-    lists
+fn readings() -> Lists {
+    lists! {
+        "read 1": Create(PLAIN, 7, 0), Read(-1) => 1, reads(0, 7), reads(END, 7), Read(END + 1) => 1,
+            Read(i64::MAX) => 1, is_started(false);
+        "details 1": Create(MONOTONIC, 7, 0), Details(-1) => 1, Details(0), Details(END), Details(END + 1) => 1;
+        "read and details 2": Create(PLAIN, 0, 10), Read(9) => 2, Details(9) => 2, Read(10), Details(10),
+            Update(set(5), 20), Update(set(-1), 30) => 5, Read(19) => 2, Details(19) => 2, Read(20), Details(20),
+            is_started(true);
+        "the backstop END": Create(PLAIN, END, 0), reads(END, END);
+        "read 12 behind 2 and not in details": Create(PLAIN, 0, 0), Update(set(END), 0), Update(error(3), 10),
+            Read(5) => 2, Read(10) => 12, Details(10), Details(9) => 2, Read(END + 1) => 1;
+        "an automatic start to the end": Create(AUTO_START, 0, 0), reads(END, END), Read(END + 1) => 1;
+        "read and details in order": Create(PLAIN, 0, 10), Read(-1) => 1, Details(-1) => 1;
+    }
 }
 
-fn worked_cases() -> Vec<FixedList> {
-    let start = (create(PLAIN, 0, 0), 0);
-    let auto = (create(MONOTONIC | AUTO_START, 0, 0), 0);
-    let mut lists = vec![
-        list("case 1", &[start.clone(), (update(set(1500), 100), 0), (read(350), 0)]),
-        list(
-            "case 2",
-            &[
-                start.clone(),
-                (update(set(1500), 100), 0),
-                (update(rate(-23), 1_000_100), 0),
-                (read(1_000_100), 0),
-                (read(2_000_100), 0),
-            ],
-        ),
-        list(
-            "case 3",
-            &[
-                auto.clone(),
-                (update(at(1_000_000_000, rate(100)), 2_000_000_000), 0),
-                (read(2_000_000_000), 0),
-            ],
-        ),
-        list(
-            "case 4",
-            &[
-                auto,
-                (update(at(1_000_000_000, rate(-100)), 2_000_000_000), 14),
-                (update(at(3_000_000_000, rate(-100)), 2_000_000_000), 0),
-                (read(2_000_000_000), 0),
-            ],
-        ),
-        list(
-            "case 5",
-            &[
-                start.clone(),
-                (update(with_rate(1, at(10, set(10))), 9), 0),
-                (read(9), 0),
-                (read(10), 0),
-            ],
-        ),
-        list(
-            "case 6",
-            &[
-                start.clone(),
-                (update(with_rate(-1, set(0)), 0), 0),
-                (update(rate(-1), 1), 0),
-                (update(rate(-1), 2), 0),
-                (read(3), 0),
-            ],
-        ),
-        list(
-            "case 7",
-            &[
-                start.clone(),
-                (update(set(1500), 100), 0),
-                (update(rate(1000), 100), 0),
-                (update(rate(1001), 100), 6),
-                (update(rate(-1000), 100), 0),
-                (update(rate(-1001), 100), 6),
-            ],
-        ),
-        list(
-            "case 8",
-            &[
-                (create(PLAIN, 1000, 0), 0),
-                (update(set(999), 0), 13),
-                (update(set(1000), 0), 0),
-            ],
-        ),
-        list(
-            "case 9",
-            &[(create(AUTO_START, 5, 4), 17), (create(AUTO_START, 5, 5), 0)],
-        ),
-        list(
-            "case 10",
-            &[start, (update(set(LAST), 0), 0), (read(0), 0), (read(1), 12)],
-        ),
-        list(
-            "case 11",
-            &[
-                (create(MONOTONIC, 10, 0), 0),
-                (update(set(20), 0), 0),
-                (read(0), 0),
-                (update(set(5), 0), 13),
-            ],
-        ),
-        list(
-            "case 12",
-            &[
-                (
-                    read_slip(&[0x0A, 0x00, 0x00, 0x00, 0x00, 0x00, 0x00, 0x00, 0x2E, 0xE0]),
-                    0,
-                ),
-                (write_slip(set(1500), 10), 0),
-                (read_slip(&[0x08, 0x80, 0x7A, 0x20]), 0),
-                (write_slip(rate(-23), 4), 0),
-            ],
-        ),
-    ];
-    for word in [0, 32, 128, 160, 192, 224] {
-        let continuous = word & CONTINUOUS != 0;
-        let started = word & AUTO_START != 0;
-        lists.push(list(
-            "case 13",
-            &[
-                (create(word, 0, 0), 0),
-                (update(at(5, error(1)), 10), 7),
-                (update(set(10), 10), if continuous && started { 10 } else { 0 }),
-                (update(at(5, error(1)), 10), 7),
-                (update(at(10, rate(1)), 10), if continuous { 9 } else { 0 }),
-            ],
-        ));
+/// Rules 1 to 11, before any line is drawn.
+fn requests_refused() -> Lists {
+    lists! {
+        "update 1": Create(PLAIN, 0, 0), Update(set(0), -1) => 1, Update(set(0), END + 1) => 1, Update(set(0), END),
+            Update(set(0), i64::MAX) => 1, Update(set(0), i64::MIN) => 1;
+        "update 2": Create(PLAIN, 0, 10), Update(set(0), 9) => 2, Update(set(0), 10), Update(error(1), 20),
+            Update(set(0), 19) => 2, Update(set(0), 20);
+        "update 4": Create(PLAIN, 0, 0), Update(junk(word(VERSION_2)), 0) => 4, Update(set(1), 0),
+            Update(word(VERSION_2), 0) => 4, Update(error(0), 0);
+        "update 5 synthetic": Create(PLAIN, 0, 0), Update(set(i64::MIN), 0) => 5, Update(set(-1), 0) => 5,
+            Update(set(END + 1), 0) => 5, Update(set(END), 0), Update(junk(set(0)), 0), Update(junk(rate(1)), 0),
+            Update(junk(error(1)), 0);
+        "update 5 reference": Create(PLAIN, 0, 0), Update(at(-1, set(5)), 10) => 5,
+            Update(at(END + 1, set(END)), 10) => 5, Update(at(0, set(5)), 10), Update(at(END, set(END)), 10),
+            Update(at(-1, rate(5)), 10) => 5;
+        "update 6": Create(PLAIN, 0, 0), Update(with(1001, set(5)), 0) => 6, Update(with(-1001, set(5)), 0) => 6,
+            Update(with(1000, set(5)), 0), Update(with(-1000, set(5)), 0), Update(rate(i32::MIN), 0) => 6,
+            Update(rate(i32::MAX), 0) => 6;
+        "update 7": Create(PLAIN, 0, 0), Update(set(100), 10), Update(at(5, word(VERSION_2)), 10) => 7,
+            Update(at(5, error(1)), 10) => 7, Update(at(5, rate(1)), 10), Update(at(5, set(1)), 10);
+        "update 8": Create(PLAIN, 0, 0), Update(rate(1), 0) => 8, Update(error(1), 0) => 8,
+            Update(at(0, rate(1)), 0) => 8, Update(set(1), 0), Update(rate(1), 0), Update(error(1), 0),
+            Create(AUTO_START, 0, 0), Update(rate(1), 0);
+        "update 9": Create(STEADY, 0, 0), Update(at(10, set(5)), 10) => 9, Update(set(5), 10),
+            Update(at(10, rate(1)), 10) => 9, Update(rate(1), 10), Create(MONOTONIC, 0, 0), Update(at(10, set(5)), 10);
+        "update 10": Create(STEADY, 0, 0), Update(with(1, set(5)), 10), Update(set(100), 20) => 10,
+            Update(error(1), 20), Create(STEADY | AUTO_START, 0, 0), Update(set(100), 20) => 10;
+        "update 11": Create(MONOTONIC, 0, 0), Update(with(3, set(5)), 0), Update(with(3, set(50)), 0) => 11,
+            Update(set(50), 0), Update(rate(-3), 0), Create(PLAIN, 0, 0), Update(set(5), 0), Update(with(3, set(1)), 0);
     }
-    for word in [MONOTONIC, MONOTONIC | AUTO_START] {
-        lists.push(list(
-            "case 14",
-            &[
-                (create(word, 5, 10), 0),
-                (update(set(40), 20), 0),
-                (read(30), 0),
-                (update(set(50), 30), 0),
-                (update(set(49), 30), 14),
-            ],
-        ));
-    }
-    lists
 }
 
-fn creations() -> Vec<FixedList> {
-    let mut known_words = vec![];
-    for word in 0..=255u8 {
-        let expected = match word {
-            0 | 32 | 128 | 160 | 192 | 224 => 0,
-            64 | 96 => 15,
-            _ => 3,
-        };
-        known_words.push((create(word, 0, 0), expected));
+/// Rules 12 to 14, for the new line.
+fn lines_refused() -> Lists {
+    lists! {
+        "update 12 S0 below 0": Create(PLAIN, 0, 0), Update(at(10, set(0)), 10), Update(at(9, rate(0)), 10) => 12,
+            Update(at(10, rate(0)), 10);
+        "update 12 S0 above END": Create(PLAIN, 0, 0), Update(set(END - 1), 0), Update(at(2, rate(0)), 0) => 12,
+            Update(at(1, rate(0)), 0);
+        "update 12 value": Create(PLAIN, 0, 0), Update(at(9, set(END)), 10) => 12, Update(at(10, set(END)), 10),
+            Update(at(11, set(END)), 10);
+        "update 12 only a new line": Create(PLAIN, 0, 0), Update(set(END), 0), Update(rate(0), 1) => 12,
+            Update(error(1), 1), Update(rate(0), 1) => 12, Update(set(END), 1);
+        "update 12 a wide product": Create(AUTO_START, 0, 0), Update(at(0, rate(1000)), END) => 12,
+            Update(at(0, rate(-1000)), END), reads(END, 2_303_537_166_204_480_257);
+        "update 13 set": Create(PLAIN, 1000, 0), Update(at(11, set(1000)), 10) => 13, Update(at(9, set(999)), 10),
+            Update(at(10, set(999)), 10) => 13, Update(at(10, set(1000)), 10);
+        "update 13 rate": Create(PLAIN, 1000, 0), Update(set(1000), 0), Update(at(1000, rate(1000)), 0) => 13,
+            Update(at(1, rate(1)), 0) => 13, Update(at(1, rate(0)), 0), Update(at(1, rate(-1)), 0);
+        "update 14 set": Create(MONOTONIC, 0, 0), Update(set(50), 100), Update(set(59), 110) => 14,
+            Update(set(60), 110), Update(at(111, set(60)), 110) => 14, Update(at(109, set(59)), 110),
+            Create(PLAIN, 0, 0), Update(set(50), 100), Update(set(0), 110), Create(MONOTONIC, 0, 0),
+            Update(set(END), 0), Update(set(END), 1) => 14;
+        "update 14 rate": Create(MONOTONIC | AUTO_START, 0, 0), Update(at(11, rate(1)), 10) => 14,
+            Update(at(9, rate(-1)), 10) => 14, Update(at(11, rate(-1)), 10);
     }
-    vec![
-        list(
-            "create 1",
-            &[
-                (create(PLAIN, 0, -1), 1),
-                (create(PLAIN, 0, 0), 0),
-                (create(PLAIN, 0, LAST), 0),
-                (create(PLAIN, 0, LAST + 1), 1),
-                (create(PLAIN, 0, i64::MIN), 1),
-                (create(PLAIN, 0, i64::MAX), 1),
-            ],
-        ),
-        list("create 3 and 15", &known_words),
-        list(
-            "create 16",
-            &[
-                (create(PLAIN, -1, 0), 16),
-                (create(PLAIN, 0, 0), 0),
-                (create(PLAIN, LAST, 0), 0),
-                (create(PLAIN, LAST + 1, 0), 16),
-                (create(PLAIN, i64::MIN, 0), 16),
-                (create(PLAIN, i64::MAX, 0), 16),
-            ],
-        ),
-        list(
-            "create 17",
-            &[
-                (create(AUTO_START, 1, 0), 17),
-                (create(AUTO_START, 0, 0), 0),
-                (create(AUTO_START, LAST, LAST), 0),
-                (create(AUTO_START, LAST, LAST - 1), 17),
-                (create(PLAIN, LAST, LAST - 1), 0),
-            ],
-        ),
-        list(
-            "create, two at once",
-            &[
-                (create(1, 0, -1), 1),
-                (create(CONTINUOUS | 1, 0, 0), 3),
-                (create(CONTINUOUS, -1, 0), 15),
-                (create(AUTO_START, LAST + 1, 0), 16),
-                (create(AUTO_START, 1, -1), 1),
-            ],
-        ),
-        list(
-            "no clock",
-            &[
-                (create(1, 0, 0), 3),
-                (read(0), 255),
-                (details(0), 255),
-                (Call::Started, 0),
-                (update(set(1), 0), 255),
-            ],
-        ),
-    ]
-}
-
-fn readings() -> Vec<FixedList> {
-    vec![
-        list(
-            "read 1, before the start",
-            &[
-                (create(PLAIN, 7, 0), 0),
-                (read(-1), 1),
-                (read(0), 0),
-                (read(LAST), 0),
-                (read(LAST + 1), 1),
-                (read(i64::MAX), 1),
-            ],
-        ),
-        list(
-            "details 1",
-            &[
-                (create(MONOTONIC, 7, 0), 0),
-                (details(-1), 1),
-                (details(0), 0),
-                (details(LAST), 0),
-                (details(LAST + 1), 1),
-            ],
-        ),
-        list(
-            "read and details 2",
-            &[
-                (create(PLAIN, 0, 10), 0),
-                (read(9), 2),
-                (details(9), 2),
-                (read(10), 0),
-                (details(10), 0),
-                (update(set(5), 20), 0),
-                (update(set(-1), 30), 5),
-                (read(19), 2),
-                (details(19), 2),
-                (read(20), 0),
-                (details(20), 0),
-                (Call::Started, 0),
-            ],
-        ),
-        list(
-            "read END before the start",
-            &[(create(PLAIN, LAST, 0), 0), (read(LAST), 0), (Call::Started, 0)],
-        ),
-        list(
-            "read 12, and 2 before it; details have no 12",
-            &[
-                (create(PLAIN, 0, 0), 0),
-                (update(set(LAST), 0), 0),
-                (update(error(3), 10), 0),
-                (read(5), 2),
-                (read(10), 12),
-                (details(10), 0),
-                (details(9), 2),
-                (read(LAST + 1), 1),
-            ],
-        ),
-        list(
-            "read 12 of an automatic start",
-            &[(create(AUTO_START, 0, 0), 0), (read(LAST), 0), (read(LAST + 1), 1)],
-        ),
-        list(
-            "read 1 before 2",
-            &[(create(PLAIN, 0, 10), 0), (read(-1), 1), (details(-1), 1)],
-        ),
-    ]
-}
-
-fn update_checks_before_the_line() -> Vec<FixedList> {
-    let started = [(create(PLAIN, 0, 0), 0), (update(set(100), 10), 0)];
-    let steady = [
-        (create(STEADY, 0, 0), 0),
-        (update(at(10, set(5)), 10), 9),
-        (update(with_rate(1, set(5)), 10), 0),
-    ];
-    let mut words = started.to_vec();
-    for version in 0..64 {
-        words.push((
-            update(word(version << 58 | ERROR), 10),
-            if version == 2 { 0 } else { 3 },
-        ));
-    }
-    for bit in 0..54 {
-        words.push((update(word(VERSION_2 | ERROR | 1 << bit), 10), 3));
-    }
-    vec![
-        list(
-            "update 1",
-            &[
-                (create(PLAIN, 0, 0), 0),
-                (update(set(0), -1), 1),
-                (update(set(0), LAST + 1), 1),
-                (update(set(0), LAST), 0),
-                (update(set(0), i64::MAX), 1),
-            ],
-        ),
-        list(
-            "update 2",
-            &[
-                (create(PLAIN, 0, 10), 0),
-                (update(set(0), 9), 2),
-                (update(set(0), 10), 0),
-                (update(error(1), 20), 0),
-                (update(set(0), 19), 2),
-                (update(set(0), 20), 0),
-            ],
-        ),
-        list("update 3", &words),
-        list(
-            "update 4",
-            &[
-                (create(PLAIN, 0, 0), 0),
-                (update(with_junk(word(VERSION_2)), 0), 4),
-                (update(set(1), 0), 0),
-                (update(word(VERSION_2), 0), 4),
-                (update(error(0), 0), 0),
-            ],
-        ),
-        list(
-            "update 5, synthetic",
-            &[
-                (create(PLAIN, 0, 0), 0),
-                (update(set(-1), 0), 5),
-                (update(set(LAST + 1), 0), 5),
-                (update(set(i64::MIN), 0), 5),
-                (update(set(LAST), 0), 0),
-                (update(with_junk(set(0)), 0), 0),
-                (update(with_junk(rate(1)), 0), 0),
-                (update(with_junk(error(1)), 0), 0),
-            ],
-        ),
-        list(
-            "update 5, reference",
-            &[
-                (create(PLAIN, 0, 0), 0),
-                (update(at(-1, set(5)), 10), 5),
-                (update(at(LAST + 1, set(LAST)), 10), 5),
-                (update(at(0, set(5)), 10), 0),
-                (update(at(LAST, set(LAST)), 10), 0),
-                (update(at(-1, rate(5)), 10), 5),
-            ],
-        ),
-        list(
-            "update 6",
-            &[
-                (create(PLAIN, 0, 0), 0),
-                (update(with_rate(1001, set(5)), 0), 6),
-                (update(with_rate(-1001, set(5)), 0), 6),
-                (update(with_rate(1000, set(5)), 0), 0),
-                (update(with_rate(-1000, set(5)), 0), 0),
-                (update(rate(i32::MIN), 0), 6),
-                (update(rate(i32::MAX), 0), 6),
-            ],
-        ),
-        list(
-            "update 7",
-            &[
-                started[0].clone(),
-                started[1].clone(),
-                (update(at(5, word(VERSION_2)), 10), 7),
-                (update(at(5, error(1)), 10), 7),
-                (update(at(5, rate(1)), 10), 0),
-                (update(at(5, set(1)), 10), 0),
-            ],
-        ),
-        list(
-            "update 8",
-            &[
-                (create(PLAIN, 0, 0), 0),
-                (update(rate(1), 0), 8),
-                (update(error(1), 0), 8),
-                (update(at(0, rate(1)), 0), 8),
-                (update(set(1), 0), 0),
-                (update(rate(1), 0), 0),
-                (update(error(1), 0), 0),
-            ],
-        ),
-        list(
-            "update 8 of an automatic start",
-            &[(create(AUTO_START, 0, 0), 0), (update(rate(1), 0), 0)],
-        ),
-        list(
-            "update 9",
-            &[
-                steady[0].clone(),
-                steady[1].clone(),
-                steady[2].clone(),
-                (update(at(10, rate(1)), 10), 9),
-                (update(rate(1), 10), 0),
-            ],
-        ),
-        list(
-            "update 9, monotonic only",
-            &[(create(MONOTONIC, 0, 0), 0), (update(at(10, set(5)), 10), 0)],
-        ),
-        list(
-            "update 10",
-            &[
-                steady[0].clone(),
-                steady[2].clone(),
-                (update(set(100), 20), 10),
-                (update(error(1), 20), 0),
-                (create(STEADY | AUTO_START, 0, 0), 0),
-                (update(set(100), 20), 10),
-            ],
-        ),
-        list(
-            "update 11",
-            &[
-                (create(MONOTONIC, 0, 0), 0),
-                (update(with_rate(3, set(5)), 0), 0),
-                (update(with_rate(3, set(50)), 0), 11),
-                (update(set(50), 0), 0),
-                (update(rate(-3), 0), 0),
-                (create(PLAIN, 0, 0), 0),
-                (update(set(5), 0), 0),
-                (update(with_rate(3, set(1)), 0), 0),
-            ],
-        ),
-    ]
-}
-
-fn update_checks_of_the_line() -> Vec<FixedList> {
-    vec![
-        list(
-            "update 12, S0 below 0",
-            &[
-                (create(PLAIN, 0, 0), 0),
-                (update(at(10, set(0)), 10), 0),
-                (update(at(9, rate(0)), 10), 12),
-                (update(at(10, rate(0)), 10), 0),
-            ],
-        ),
-        list(
-            "update 12, S0 above END",
-            &[
-                (create(PLAIN, 0, 0), 0),
-                (update(set(LAST - 1), 0), 0),
-                (update(at(2, rate(0)), 0), 12),
-                (update(at(1, rate(0)), 0), 0),
-            ],
-        ),
-        list(
-            "update 12, value at now above END",
-            &[
-                (create(PLAIN, 0, 0), 0),
-                (update(at(9, set(LAST)), 10), 12),
-                (update(at(10, set(LAST)), 10), 0),
-                (update(at(11, set(LAST)), 10), 0),
-            ],
-        ),
-        list(
-            "update 12 only where the line is replaced",
-            &[
-                (create(PLAIN, 0, 0), 0),
-                (update(set(LAST), 0), 0),
-                (update(rate(0), 1), 12),
-                (update(error(1), 1), 0),
-                (update(rate(0), 1), 12),
-                (update(set(LAST), 1), 0),
-            ],
-        ),
-        list(
-            "update 12, the product passes 64 bits",
-            &[
-                (create(AUTO_START, 0, 0), 0),
-                (update(at(0, rate(1000)), LAST), 12),
-                (update(at(0, rate(-1000)), LAST), 0),
-                (read(LAST), 0),
-            ],
-        ),
-        list(
-            "update 13, set",
-            &[
-                (create(PLAIN, 1000, 0), 0),
-                (update(at(11, set(1000)), 10), 13),
-                (update(at(9, set(999)), 10), 0),
-                (update(at(10, set(999)), 10), 13),
-                (update(at(10, set(1000)), 10), 0),
-            ],
-        ),
-        list(
-            "update 13, rate",
-            &[
-                (create(PLAIN, 1000, 0), 0),
-                (update(set(1000), 0), 0),
-                (update(at(1000, rate(1000)), 0), 13),
-                (update(at(1, rate(1)), 0), 13),
-                (update(at(1, rate(0)), 0), 0),
-                (update(at(1, rate(-1)), 0), 0),
-            ],
-        ),
-        list(
-            "update 14, set",
-            &[
-                (create(MONOTONIC, 0, 0), 0),
-                (update(set(50), 100), 0),
-                (update(set(59), 110), 14),
-                (update(set(60), 110), 0),
-                (update(at(111, set(60)), 110), 14),
-                (update(at(109, set(59)), 110), 0),
-                (create(PLAIN, 0, 0), 0),
-                (update(set(50), 100), 0),
-                (update(set(0), 110), 0),
-            ],
-        ),
-        list(
-            "update 14, rate",
-            &[
-                (create(MONOTONIC | AUTO_START, 0, 0), 0),
-                (update(at(11, rate(1)), 10), 14),
-                (update(at(9, rate(-1)), 10), 14),
-                (update(at(11, rate(-1)), 10), 0),
-            ],
-        ),
-    ]
 }
 
 /// Calls to which two checks apply.
-fn update_orders() -> Vec<FixedList> {
-    let beyond = at(9, with_rate(0, set(LAST)));
-    vec![
-        list(
-            "update, two at once before the start",
-            &[
-                (create(PLAIN, 0, 10), 0),
-                (update(set(1), -1), 1),
-                (update(word(0), 9), 2),
-                (update(word(0), 10), 3),
-                (update(word(SYNTHETIC), 10), 3),
-                (
-                    update(
-                        Request {
-                            synthetic: -1,
-                            ..word(SYNTHETIC)
-                        },
-                        10,
-                    ),
-                    3,
-                ),
-                (update(word(VERSION_2), 10), 4),
-                (update(with_rate(1001, set(-1)), 10), 5),
-                (update(at(-1, error(1)), 10), 5),
-                (update(rate(1001), 10), 6),
-                (update(at(1, error(1)), 10), 7),
-            ],
-        ),
-        list(
-            "update, two at once on a continuous clock",
-            &[
-                (create(STEADY, 0, 0), 0),
-                (update(at(1, error(1)), 10), 7),
-                (update(at(1, rate(1)), 10), 8),
-                (update(set(5), 10), 0),
-                (update(at(10, set(20)), 10), 9),
-                (update(with_rate(1, set(20)), 10), 10),
-                (update(at(1, error(1)), 10), 7),
-            ],
-        ),
-        list(
-            "update 11 before 12",
-            &[
-                (create(MONOTONIC, 0, 0), 0),
-                (update(set(5), 10), 0),
-                (update(beyond, 10), 11),
-            ],
-        ),
-        list(
-            "update 12 before 13",
-            &[
-                (create(PLAIN, 1000, 0), 0),
-                (update(set(1000), 2000), 0),
-                (update(at(0, rate(-1000)), 2000), 12),
-            ],
-        ),
-        list(
-            "update 13 before 14",
-            &[
-                (create(MONOTONIC, 10, 0), 0),
-                (update(set(20), 0), 0),
-                (update(set(9), 0), 13),
-            ],
-        ),
-    ]
-}
-
-/// Accepted updates whose effect is easily got wrong; what they leave is compared.
-fn effects() -> Vec<FixedList> {
-    vec![
-        list(
-            "a set keeps the old rate, and a set with a rate does not",
-            &[
-                (create(PLAIN, 0, 0), 0),
-                (update(with_rate(7, set(5)), 0), 0),
-                (update(set(6), 0), 0),
-                (update(with_rate(8, set(6)), 0), 0),
-            ],
-        ),
-        list(
-            "the generation begins again at 0",
-            &[
-                (create(AUTO_START, 0, 0), 0),
-                (update(rate(0), 0), 0),
-                (Call::Age { generation: u32::MAX }, 0),
-                (update(error(1), 0), 0),
-                (details(0), 0),
-                (update(rate(0), 0), 0),
-                (details(0), 0),
-            ],
-        ),
-        list(
-            "an unflagged error bound is kept",
-            &[
-                (create(AUTO_START, 0, 0), 0),
-                (update(error(5), 0), 0),
-                (update(with_junk(rate(1)), 0), 0),
-                (details(0), 0),
-            ],
-        ),
-        list(
-            "a refused update leaves no trace",
-            &[
-                (create(AUTO_START, 0, 0), 0),
-                (
-                    update(
-                        Request {
-                            error: 9,
-                            ..at(5, error(9))
-                        },
-                        100,
-                    ),
-                    7,
-                ),
-                (update(error(1), 50), 0),
-                (details(50), 0),
-            ],
-        ),
-        list(
-            "a rate at another time keeps the value there",
-            &[
-                (create(PLAIN, 0, 0), 0),
-                (update(set(100), 10), 0),
-                (update(at(1000, rate(500)), 20), 0),
-                (read(1000), 0),
-            ],
-        ),
-    ]
-}
-
-fn slips_read() -> Vec<FixedList> {
-    let whole = [0x0A, 0x00, 0x00, 0x00, 0x00, 0x00, 0x00, 0x00, 0x2E, 0xE0];
-    let mut headers = vec![];
-    for bit in 0..6 {
-        headers.push((read_slip(&[0x08, 1 << bit]), 3));
+fn orders() -> Lists {
+    let unversioned = Request { word: SYNTHETIC, ..set(-1) };
+    lists! {
+        "update in order before the start": Create(PLAIN, 0, 10), Update(set(1), -1) => 1, Update(word(0), 9) => 2,
+            Update(word(0), 10) => 3, Update(unversioned, 10) => 3, Update(word(VERSION_2), 10) => 4,
+            Update(with(1001, set(-1)), 10) => 5, Update(at(-1, error(1)), 10) => 5, Update(rate(1001), 10) => 6,
+            Update(at(1, error(1)), 10) => 7;
+        "update in order on a continuous clock": Create(STEADY, 0, 0), Update(at(1, error(1)), 10) => 7,
+            Update(at(1, rate(1)), 10) => 8, Update(set(5), 10), Update(at(10, set(20)), 10) => 9,
+            Update(with(1, set(20)), 10) => 10, Update(at(1, error(1)), 10) => 7;
+        "11 before 12": Create(MONOTONIC, 0, 0), Update(set(5), 10), Update(at(9, with(0, set(END))), 10) => 11;
+        "12 before 13": Create(PLAIN, 1000, 0), Update(set(1000), 2000), Update(at(0, rate(-1000)), 2000) => 12;
     }
-    for version in 0..64u8 {
-        headers.push((read_slip(&[version << 2, 0x00]), if version == 2 { 0 } else { 3 }));
+}
+
+/// Accepted updates whose effect is easily got wrong, and what details then tell.
+fn effects() -> Lists {
+    let unknown = UNKNOWN_ERROR;
+    let aged = Clock { generation: u32::MAX, started: 1, ..Clock::default() };
+    lists! {
+        "before a start and behind an automatic one": Create(STEADY, 7, 0), is_started(false),
+            tells((STEADY, 7), 3, (0, 0, 0), unknown, 1, 0), Create(PLAIN, 0, 0), is_started(false),
+            tells((PLAIN, 0), 3, (0, 0, 0), unknown, 1, 0), Create(AUTO_START, 0, 5), is_started(true),
+            tells((AUTO_START, 0), 6, (0, 0, 0), unknown, 1, 5);
+        "a set keeps the old rate": Create(PLAIN, 0, 0), Update(with(7, set(5)), 10),
+            tells((PLAIN, 0), 11, (10, 5, 7), unknown, 2, 10), Update(set(6), 20),
+            tells((PLAIN, 0), 21, (20, 6, 7), unknown, 3, 20), Update(with(8, set(6)), 20),
+            tells((PLAIN, 0), 20, (20, 6, 8), unknown, 4, 20);
+        "an equal line raises the generation": Create(PLAIN, 0, 0), Update(set(0), 0), Update(set(0), 0),
+            tells((PLAIN, 0), 0, (0, 0, 0), unknown, 3, 0), Update(junk(error(5)), 9),
+            tells((PLAIN, 0), 9, (0, 0, 0), 5, 3, 9), Update(junk(rate(1)), 9),
+            tells((PLAIN, 0), 9, (9, 9, 1), 5, 4, 9);
+        "the generation begins again at 0": Take(aged), Update(error(1), 0),
+            tells((PLAIN, 0), 0, (0, 0, 0), 1, u32::MAX, 0), Update(rate(0), 0),
+            tells((PLAIN, 0), 0, (0, 0, 0), 1, 0, 0);
+        "a refused update leaves no trace": Create(PLAIN, 0, 0), Update(set(5), 0), Update(at(5, error(9)), 100) => 7,
+            Update(error(1), 50), tells((PLAIN, 0), 60, (0, 5, 0), 1, 2, 50);
+        "a rate at another time keeps the value there": Create(PLAIN, 0, 0), Update(set(100), 10),
+            Update(at(1000, rate(500)), 20), tells((PLAIN, 0), 20, (1000, 1090, 500), unknown, 3, 20),
+            reads(1000, 1090);
     }
-    vec![
-        list(
-            "slip 18",
-            &[
-                (read_slip(&[]), 18),
-                (read_slip(&[0x08]), 18),
-                (read_slip(&[0x04]), 18),
-                (read_slip(&[0x08, 0x00]), 0),
-                (read_slip(&whole[..9]), 18),
-                (read_slip(&whole), 0),
-            ],
-        ),
-        list("slip 3", &headers),
-        list(
-            "slip 6",
-            &[
-                (read_slip(&[0x08, 0x80, 0xFA, 0x00]), 0),
-                (read_slip(&[0x08, 0x80, 0xFA, 0x20]), 6),
-                (read_slip(&[0x08, 0x80, 0xFF, 0xE0]), 6),
-                (read_slip(&[0x08, 0x80, 0x00, 0x00]), 0),
-            ],
-        ),
-        list(
-            "slip 19",
-            &[
-                (read_slip(&[0x08, 0x80, 0x7A, 0x21]), 19),
-                (read_slip(&[0x08, 0x80, 0x7A, 0x30]), 19),
-                (read_slip(&[0x08, 0x80, 0x7A, 0x20]), 0),
-            ],
-        ),
-        list(
-            "slip 20",
-            &[
-                (read_slip(&[0x08, 0x00, 0x00]), 20),
-                (read_slip(&[0x08, 0x80, 0x7A, 0x20, 0x00]), 20),
-                (read_slip(&[0x08, 0x80, 0x7A, 0x20]), 0),
-            ],
-        ),
-        list(
-            "slip, two at once",
-            &[
-                (read_slip(&[0x0A, 0x01]), 3),
-                (read_slip(&[0x08, 0xC0, 0xFF, 0xE0]), 18),
-                (read_slip(&[0x08, 0x80, 0xFF, 0xE1]), 6),
-                (read_slip(&[0x08, 0x80, 0x7A, 0x21, 0x00]), 19),
-            ],
-        ),
-    ]
 }
 
-fn slips_written() -> Vec<FixedList> {
-    let all = Request {
-        error: u64::MAX,
-        word: VERSION_2 | SYNTHETIC | REFERENCE | RATE | ERROR,
-        ..set(LAST)
-    };
-    vec![
-        list(
-            "write 3",
-            &[
-                (write_slip(word(0), 30), 3),
-                (write_slip(word(3 << 58), 30), 3),
-                (write_slip(word(VERSION_2 | 1), 30), 3),
-                (write_slip(word(VERSION_2 | 1 << 53), 30), 3),
-                (write_slip(with_junk(word(VERSION_2)), 30), 0),
-            ],
-        ),
-        list(
-            "write 5",
-            &[
-                (write_slip(set(-1), 30), 5),
-                (write_slip(set(LAST + 1), 30), 5),
-                (write_slip(with_junk(set(0)), 30), 0),
-                (write_slip(with_junk(set(LAST)), 30), 0),
-                (write_slip(at(-1, rate(1)), 30), 5),
-                (write_slip(at(LAST + 1, rate(1)), 30), 5),
-                (write_slip(with_junk(at(0, rate(1))), 30), 0),
-                (write_slip(with_junk(at(LAST, word(VERSION_2))), 30), 0),
-            ],
-        ),
-        list(
-            "write 6",
-            &[
-                (write_slip(rate(1001), 30), 6),
-                (write_slip(rate(-1001), 30), 6),
-                (write_slip(with_junk(rate(1000)), 30), 0),
-                (write_slip(with_junk(rate(-1000)), 30), 0),
-            ],
-        ),
-        list(
-            "write 21",
-            &[
-                (write_slip(word(VERSION_2), 1), 21),
-                (write_slip(word(VERSION_2), 2), 0),
-                (write_slip(set(1500), 0), 21),
-                (write_slip(set(1500), 9), 21),
-                (write_slip(set(1500), 10), 0),
-                (write_slip(set(1500), 11), 0),
-                (write_slip(all, LONGEST_SLIP - 1), 21),
-                (write_slip(all, LONGEST_SLIP), 0),
-                (write_slip(all, LONGEST_SLIP + 13), 0),
-            ],
-        ),
-        list(
-            "write, two at once",
-            &[
-                (
-                    write_slip(
-                        Request {
-                            synthetic: -1,
-                            ..word(SYNTHETIC)
-                        },
-                        30,
-                    ),
-                    3,
-                ),
-                (write_slip(with_rate(1001, set(-1)), 30), 5),
-                (write_slip(rate(1001), 0), 6),
-                (write_slip(set(-1), 0), 5),
-            ],
-        ),
-    ]
+fn slips_read() -> Lists {
+    lists! {
+        "slip 18": slip(b"") => 18, slip(b"\x08") => 18, slip(b"\x04") => 18, slip(b"\x08\0"),
+            slip(b"\x0A\0\0\0\0\0\0\0\x2E") => 18, slip(b"\x0A\0\0\0\0\0\0\0\x2E\xE0");
+        "slip 6": slip(b"\x08\x80\xFA\0"), slip(b"\x08\x80\xFA\x20") => 6, slip(b"\x08\x80\xFF\xE0") => 6,
+            slip(b"\x08\x80\0\0");
+        "slip 19": slip(b"\x08\x80\x7A\x21") => 19, slip(b"\x08\x80\x7A\x30") => 19, slip(b"\x08\x80\x7A\x20");
+        "slip 20": slip(b"\x08\0\0") => 20, slip(b"\x08\x80\x7A\x20\0") => 20;
+        "slip in order": slip(b"\x0C") => 18, slip(b"\x0A\x01") => 3, slip(b"\x08\xC0\xFF\xE0") => 18,
+            slip(b"\x08\x80\xFF\xE1") => 6, slip(b"\x08\x80\x7A\x21\0") => 19;
+    }
 }
 
-/// By the flags alone, whatever else the word has.
-fn slip_lengths() -> Vec<FixedList> {
-    let words = (0..16)
-        .map(|flags| flags << 54)
-        .flat_map(|flags| [VERSION_2 | flags, flags, flags | (ERROR - 1)]);
-    let steps: Vec<(Call, u8)> = words.map(|word| (Call::SlipLength { word }, 0)).collect();
-    vec![list("slip lengths", &steps)]
+fn slips_written() -> Lists {
+    let all = Request { error: u64::MAX, ..word(VERSION_2 | SYNTHETIC | REFERENCE | RATE | ERROR) };
+    let unversioned = Request { word: SYNTHETIC, ..set(-1) };
+    lists! {
+        "write 3": write(word(0), 30) => 3, write(word(3 << 58), 30) => 3, write(word(VERSION_2 | 1), 30) => 3,
+            write(word(VERSION_2 | 1 << 53), 30) => 3, write(junk(word(VERSION_2)), 30);
+        "write 5": write(set(-1), 30) => 5, write(set(END + 1), 30) => 5, write(junk(set(0)), 30),
+            write(junk(set(END)), 30), write(at(-1, rate(1)), 30) => 5, write(at(END + 1, rate(1)), 30) => 5,
+            write(junk(at(0, rate(1))), 30), write(junk(at(END, word(VERSION_2))), 30);
+        "write 6": write(rate(1001), 30) => 6, write(rate(-1001), 30) => 6, write(junk(rate(1000)), 30),
+            write(junk(rate(-1000)), 30);
+        "write 21": write(word(VERSION_2), 1) => 21, write(word(VERSION_2), 2), write(set(1500), 0) => 21,
+            write(set(1500), 9) => 21, write(set(1500), 10), write(set(1500), 11), write(all, LONGEST_SLIP - 1) => 21,
+            write(all, LONGEST_SLIP), write(all, LONGEST_SLIP + 13);
+        "write in order": write(unversioned, 30) => 3, write(with(1001, set(-1)), 30) => 5, write(rate(1001), 0) => 6,
+            write(set(-1), 0) => 5;
+    }
+}
+
+/// Every creation word; every version and zero bit of an update word and of a slip's header; every length of a slip.
+fn each_bit() -> Lists {
+    let step = |call: Call, refusal| Step { refusal, ..call.into() };
+    let created = (0..=255).map(|word| match word {
+        64 | 96 => step(Create(word, 0, 0), 15),
+        _ => step(Create(word, 0, 0), if WORDS.contains(&word) { 0 } else { 3 }),
+    });
+    let good = |version| if version == 2 { 0 } else { 3 };
+    let versions = (0..64).map(|version| step(Update(word(version << 58 | ERROR), 10), good(version)));
+    let zeros = (0..54).map(|bit| step(Update(word(VERSION_2 | ERROR | 1 << bit), 10), 3));
+    let updated = [Create(AUTO_START, 0, 0).into()].into_iter().chain(versions).chain(zeros);
+    let headers = (0..64).map(|version| step(slip(&[(version << 2) as u8, 0]), good(version)));
+    let header_zeros = (0..6).map(|bit| step(slip(&[8, 1 << bit]), 3));
+    let lengths = [2, 10, 4, 12, 10, 18, 11, 19, 10, 18, 11, 19, 18, 26, 19, 27].into_iter().zip(0..);
+    let measured = lengths.flat_map(|(length, flags)| {
+        let words = [VERSION_2 | flags << 54, flags << 54, flags << 54 | (ERROR - 1)];
+        words.map(|word| answers(SlipLength(word), Answer::Length(length)))
+    });
+    vec![
+        ("create 3 and 15", created.collect()),
+        ("update 3", updated.collect()),
+        ("slip 3", headers.chain(header_zeros).collect()),
+        ("slip lengths", measured.collect()),
+    ]
 }

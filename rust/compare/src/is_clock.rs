@@ -1,85 +1,47 @@
-//! The boundary's own test of what it is handed for a clock. What fails gets 255, before every other number.
+//! The boundary's own test of what it is handed for a clock: what fails gets 255, before every other number.
 
-use second::{AUTO_START, CONTINUOUS, MAX_RATE, MONOTONIC, Right, Rules};
+use cementoad_sys::{AUTO_START, CONTINUOUS, Clock, END, Line, MAX_RATE, MONOTONIC, UNKNOWN_ERROR};
 
-use crate::second_side::value;
-use crate::side::{Clock, Line};
+use crate::convert::value;
 
-/// The parts of the test.
-#[derive(Clone, Copy, Debug, PartialEq, Eq)]
-pub enum Part {
-    /// The started byte is 0 or 1.
-    StartedIsYesOrNo,
+/// A part of the test: its name, and whether a clock passes it.
+type Part = (&'static str, fn(&Clock) -> bool);
 
-    // Creation would take the word and the backstop at the latest time: not 1, 3, 15, 16 or 17.
-    LatestInside,
-    WordKnown,
-    ContinuousIsMonotonic,
-    BackstopInside,
-    /// With auto start the latest time is not before the backstop.
-    AutoLatest,
+pub const PARTS: [Part; 14] = [
+    ("the started byte is 0 or 1", |clock| clock.started <= 1),
+    // Creation would take word and backstop at the latest time: not 1, 3, 15, 16 or 17.
+    ("the latest time is inside", |clock| inside(clock.latest)),
+    ("the word is known", |clock| clock.word & !(MONOTONIC | CONTINUOUS | AUTO_START) == 0),
+    ("continuous is monotonic", |clock| clock.word & CONTINUOUS == 0 || clock.word & MONOTONIC != 0),
+    ("the backstop is inside", |clock| inside(clock.backstop)),
+    ("auto start is not before the backstop", |clock| clock.word & AUTO_START == 0 || clock.latest >= clock.backstop),
+    // Once it is started. The value may be above END.
+    ("the reference is inside", |clock| rests(clock) || inside(clock.line.reference)),
+    ("the synthetic is inside", |clock| rests(clock) || inside(clock.line.synthetic)),
+    ("the rate is inside", |clock| rests(clock) || (-MAX_RATE..=MAX_RATE).contains(&clock.line.rate)),
+    ("the value at the latest time is not below the backstop", |clock| {
+        rests(clock) || value(&clock.line, clock.latest) >= clock.backstop.into()
+    }),
+    // Before the start all is as creation leaves it.
+    ("auto start is started", |clock| !rests(clock) || clock.word & AUTO_START == 0),
+    ("the line before the start is zeros", |clock| !rests(clock) || clock.line == Line::default()),
+    ("the error bound before the start is unknown", |clock| !rests(clock) || clock.error == UNKNOWN_ERROR),
+    ("the generation before the start is 1", |clock| !rests(clock) || clock.generation == 1),
+];
 
-    // Once it is started.
-    ReferenceInside,
-    SyntheticInside,
-    RateInside,
-    /// The line's value at the latest time is not below the backstop. It may be above END.
-    ValueAtLatest,
-
-    // Before the start, all is as creation leaves it.
-    AutoIsStarted,
-    LineBeforeStart,
-    ErrorBeforeStart,
-    GenerationBeforeStart,
-}
-
-/// Whether all parts hold.
 pub fn is_clock(clock: &Clock) -> bool {
-    failing(clock).next().is_none()
+    PARTS.iter().all(|(_, passes)| passes(clock))
 }
 
-/// The parts that don't hold.
-pub fn failing(clock: &Clock) -> impl Iterator<Item = Part> + use<> {
-    let clock = *clock;
-    Part::ALL.into_iter().filter(move |part| !part.holds(&clock))
+/// The parts that a clock fails, by their places in the table.
+pub fn failing(clock: &Clock) -> Vec<usize> {
+    (0..PARTS.len()).filter(|&part| !PARTS[part].1(clock)).collect()
 }
 
-impl Part {
-    pub const ALL: [Part; 14] = [
-        Part::StartedIsYesOrNo,
-        Part::LatestInside,
-        Part::WordKnown,
-        Part::ContinuousIsMonotonic,
-        Part::BackstopInside,
-        Part::AutoLatest,
-        Part::ReferenceInside,
-        Part::SyntheticInside,
-        Part::RateInside,
-        Part::ValueAtLatest,
-        Part::AutoIsStarted,
-        Part::LineBeforeStart,
-        Part::ErrorBeforeStart,
-        Part::GenerationBeforeStart,
-    ];
+fn inside(time: i64) -> bool {
+    (0..=END).contains(&time)
+}
 
-    fn holds(self, clock: &Clock) -> bool {
-        let inside = |time: i64| !Right.outside(time.into());
-        let (auto, started) = (clock.word & AUTO_START != 0, clock.started != 0);
-        match self {
-            Part::StartedIsYesOrNo => clock.started <= 1,
-            Part::LatestInside => inside(clock.latest),
-            Part::WordKnown => clock.word & !(MONOTONIC | CONTINUOUS | AUTO_START) == 0,
-            Part::ContinuousIsMonotonic => clock.word & CONTINUOUS == 0 || clock.word & MONOTONIC != 0,
-            Part::BackstopInside => inside(clock.backstop),
-            Part::AutoLatest => !auto || clock.latest >= clock.backstop,
-            Part::ReferenceInside => !started || inside(clock.line.reference),
-            Part::SyntheticInside => !started || inside(clock.line.synthetic),
-            Part::RateInside => !started || i128::from(clock.line.rate).abs() <= MAX_RATE,
-            Part::ValueAtLatest => !started || value(&clock.line, clock.latest) >= clock.backstop.into(),
-            Part::AutoIsStarted => started || !auto,
-            Part::LineBeforeStart => started || clock.line == Line::default(),
-            Part::ErrorBeforeStart => started || clock.error == u64::MAX,
-            Part::GenerationBeforeStart => started || clock.generation == 1,
-        }
-    }
+fn rests(clock: &Clock) -> bool {
+    clock.started == 0
 }

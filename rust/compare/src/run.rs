@@ -1,296 +1,129 @@
-//! Runs a list of calls on both sides at once, and says where they differ or break a demand.
+//! Runs a list of calls on both sides at once, and says where they differ or break a promise.
 
-use std::fmt::Write;
+use cementoad_sys::*;
 
-use second::{END, hyphenated};
-
-use crate::call::Call;
+use crate::call::{Answer, Call};
+use crate::convert::or_else;
 use crate::demands::Witness;
-use crate::is_clock::{failing, is_clock};
-use crate::second_side::NOT_A_CLOCK;
-use crate::side::{Answer, Ask, Clock, Request, Side};
-use crate::tally::Tally;
-
-/// The two programs.
-#[derive(Clone, Copy)]
-pub struct Sides<'a> {
-    pub library: &'a dyn Side,
-    pub second: &'a dyn Side,
-}
-
-/// What is wrong with a call's answers, told in words.
-pub type Difference = String;
+use crate::is_clock::{PARTS, failing};
+use crate::met::Met;
+use crate::{library, second_side};
 
 /// A list under way.
 pub struct Run<'a> {
-    sides: Sides<'a>,
-    tally: &'a mut Tally,
+    met: &'a mut Met,
     /// The clock as the call before left it; zeros where there is none.
     pub clock: Clock,
+    /// None beside a clock that is made up.
     witness: Option<Witness>,
 }
 
 impl<'a> Run<'a> {
-    pub fn new(sides: Sides<'a>, tally: &'a mut Tally) -> Self {
-        Run {
-            sides,
-            tally,
-            clock: Clock::default(),
-            witness: None,
-        }
+    pub fn new(met: &'a mut Met) -> Self {
+        Run { met, clock: Clock::default(), witness: None }
     }
 
-    /// Whether there is a clock.
-    pub fn has_clock(&self) -> bool {
-        self.witness.is_some()
-    }
-
-    /// Makes one call on both sides. The answer is its refusal's number; of the calls on a made-up clock, 255 or 0.
-    pub fn step(&mut self, call: &Call) -> Result<u8, Difference> {
-        let refusal = self.make(call)?;
-        self.check_clock()?;
-        Ok(refusal)
-    }
-
-    fn make(&mut self, call: &Call) -> Result<u8, Difference> {
-        let clock = self.clock;
-        match call {
-            &Call::Create { word, backstop, now } => self.create(word, backstop, now),
-            &Call::Read { now } => self.read(now),
-            Call::Update { request, now } => self.update(request, *now),
-            &Call::Details { now } => self.same(&Ask::Details { clock, now }).map(|answer| answer.refusal()),
-            Call::Started => self.same(&Ask::Started { clock }).map(|answer| answer.refusal()),
-            &Call::Age { generation } => {
-                if clock.started == 1 {
-                    self.clock.generation = generation;
-                }
-                Ok(0)
-            }
-            &Call::MadeUp { clock, request, now } => self.made_up(clock, request, now),
-            Call::ReadSlip { bytes } => self.read_slip(bytes),
-            Call::WriteSlip { request, buffer } => self.write_slip(request, buffer),
-            &Call::SlipLength { word } => self.same(&Ask::SlipLength { word }).map(|answer| answer.refusal()),
-        }
-    }
-
-    /// What holds of the clock that both sides answered, behind every call: the ideal line runs beside it once it is
-    /// started, and it passes the boundary's test.
-    fn check_clock(&self) -> Result<(), Difference> {
-        let Some(witness) = &self.witness else {
-            return Ok(());
-        };
-        witness.runs_beside(&self.clock)?;
-        check_is_clock(&self.clock)
-    }
-
-    /// The answer that both give.
-    fn agreed(&mut self, ask: &Ask) -> Result<Answer, Difference> {
-        let (library, second) = (self.sides.library.answer(ask), self.sides.second.answer(ask));
-        self.tally.count(ask, library.refusal());
+    /// Makes one call on both sides. The answer is the one that both give, or what is wrong with it.
+    pub fn step(&mut self, call: &Call) -> Result<Answer, String> {
+        let before = self.clock;
+        let (library, second) = (library::answer(call, before), second_side::answer(call, before));
         if library != second {
-            return Err(format!(
-                "the answers differ:\n      library: {library}\n      second:  {second}"
-            ));
+            return Err(format!("the answers differ:\n      library: {library:?}\n      second:  {second:?}"));
+        }
+        if library.refusal() == NOT_A_CLOCK && self.witness.is_some() {
+            return Err(format!("255 on a clock that creation gave: {before:?}"));
+        }
+        self.met.count(call, &before, library.refusal());
+        if let (Call::Update(request, now), Some(witness)) = (call, &mut self.witness) {
+            witness.hears(request, *now, library.refusal() == NO_REFUSAL);
+        }
+        self.check(call, &library)?;
+        if let Some(witness) = &self.witness {
+            witness.runs_beside(&self.clock)?;
         }
         Ok(library)
     }
 
-    /// The answer that both give. It is never 255 on a clock that creation gave.
-    fn same(&mut self, ask: &Ask) -> Result<Answer, Difference> {
-        let answer = self.agreed(ask)?;
-        if answer.refusal() == NOT_A_CLOCK && self.has_clock() {
-            return Err(format!("255 on a clock of {}", self.clock));
-        }
-        Ok(answer)
-    }
-
-    fn create(&mut self, word: u8, backstop: i64, now: i64) -> Result<u8, Difference> {
-        let answer = self.same(&Ask::Create { word, backstop, now })?;
-        let Answer::Clock { refusal, clock } = answer else {
-            return Err(other_kind(&answer));
-        };
-        self.clock = clock;
-        self.witness = (refusal == 0).then(|| Witness::created(word, backstop, now));
-        Ok(refusal)
-    }
-
-    fn read(&mut self, now: i64) -> Result<u8, Difference> {
-        let answer = self.same(&Ask::Read { clock: self.clock, now })?;
-        let Answer::Reading { refusal, value } = answer else {
-            return Err(other_kind(&answer));
-        };
-        match &mut self.witness {
-            Some(witness) if refusal == 0 => witness.reads(now, value)?,
-            _ => {}
-        }
-        Ok(refusal)
-    }
-
-    fn update(&mut self, request: &Request, now: i64) -> Result<u8, Difference> {
-        let before = self.clock;
-        let answer = self.same(&Ask::Update {
-            clock: before,
-            request: *request,
-            now,
-        })?;
-        let Answer::Clock { refusal, clock } = answer else {
-            return Err(other_kind(&answer));
-        };
-        self.clock = clock;
-        match &mut self.witness {
-            Some(witness) if refusal == 0 => witness.updated(request, now, &before, &clock)?,
-            _ => {}
-        }
-        check_unaltered(&before, refusal, &clock)?;
-        Ok(refusal)
-    }
-
-    /// All calls on what may be no clock.
-    fn made_up(&mut self, clock: Clock, request: Request, now: i64) -> Result<u8, Difference> {
-        self.tally.count_made_up(&clock);
-        let read = self.agreed(&Ask::Read { clock, now })?;
-        let updated = self.agreed(&Ask::Update { clock, request, now })?;
-        self.agreed(&Ask::Details { clock, now })?;
-        self.agreed(&Ask::Started { clock })?;
-        check_promises(&clock, &read, &updated).map_err(|told| format!("made up: {told}"))?;
-        Ok(if read.refusal() == NOT_A_CLOCK { NOT_A_CLOCK } else { 0 })
-    }
-
-    /// Demand 2: 'slips accepted are rewritten byte for byte'.
-    fn read_slip(&mut self, bytes: &[u8]) -> Result<u8, Difference> {
-        let answer = self.same(&Ask::ReadSlip { bytes })?;
-        let Answer::Request { refusal, request } = answer else {
-            return Err(other_kind(&answer));
-        };
-        if refusal == 0 {
-            let rewritten = self.sides.library.answer(&Ask::WriteSlip {
-                request,
-                buffer: &vec![0xAA; bytes.len()],
-            });
-            if rewritten
-                != (Answer::Slip {
-                    refusal: 0,
-                    length: bytes.len(),
-                    buffer: bytes.to_vec(),
-                })
-            {
-                return Err(format!("demand 2: the slip is rewritten otherwise: {rewritten}"));
+    fn check(&mut self, call: &Call, answer: &Answer) -> Result<(), String> {
+        match (call, answer) {
+            _ if answer.refusal() != NO_REFUSAL => self.refused(call, answer),
+            (Call::Take(clock), _) => {
+                (self.clock, self.witness) = (*clock, None);
+                Ok(())
             }
-        }
-        Ok(refusal)
-    }
-
-    /// Demand 2: 'Slips written read back as the same request', which 'means the same word and flagged arguments'.
-    fn write_slip(&mut self, request: &Request, buffer: &[u8]) -> Result<u8, Difference> {
-        let answer = self.same(&Ask::WriteSlip {
-            request: *request,
-            buffer,
-        })?;
-        let Answer::Slip {
-            refusal,
-            length,
-            buffer,
-        } = answer
-        else {
-            return Err(other_kind(&answer));
-        };
-        if refusal == 0 {
-            let slip = buffer.get(..length).unwrap_or(&buffer);
-            let read = self.sides.library.answer(&Ask::ReadSlip { bytes: slip });
-            if read
-                != (Answer::Request {
-                    refusal: 0,
-                    request: only_flagged(request),
-                })
-            {
-                return Err(format!("demand 2: the slip reads back otherwise: {read}"));
+            (&Call::Create(word, backstop, now), Answer::Created(created)) => {
+                (self.clock, self.witness) = (created.clock, Some(Witness::created(word, backstop, now)));
+                self.check_clock()
             }
+            (&Call::Read(now), Answer::Read(reading)) => self.read(now, reading.value),
+            (&Call::Update(_, now), Answer::Updated(updated)) => self.updated(now, updated.clock),
+            (Call::ReadSlip(bytes), Answer::Received(received)) => check_rewritten(bytes, received.request),
+            (Call::WriteSlip(request, before), Answer::Written(written, after)) => {
+                check_read_back(request, before, after, written.length)
+            }
+            _ => Ok(()),
         }
-        Ok(refusal)
     }
-}
 
-/// Only a side that mixes up kinds of answers comes here.
-fn other_kind(answer: &Answer) -> Difference {
-    format!("an answer of another kind: {answer}")
-}
+    /// Demand 1: all that a refused call answers is zeros, or what was handed in, and it writes nothing.
+    fn refused(&mut self, call: &Call, answer: &Answer) -> Result<(), String> {
+        let (clock, refusal) = (self.clock, answer.refusal());
+        let alone = match call {
+            Call::Create(..) => Answer::Created(Created { clock: Clock::default(), refusal }),
+            Call::Read(_) => Answer::Read(Reading { refusal, value: 0 }),
+            Call::Details(_) => Answer::Detailed(Detailed { refusal, details: Details::default() }),
+            Call::Update(..) => Answer::Updated(Updated { clock, refusal }),
+            Call::ReadSlip(_) => Answer::Received(Received { request: Request::default(), refusal }),
+            Call::WriteSlip(_, buffer) => Answer::Written(Written { length: 0, refusal }, buffer.clone()),
+            Call::Take(_) | Call::Started | Call::SlipLength(_) => Answer::Taken,
+        };
+        if let Call::Create(..) = call {
+            (self.clock, self.witness) = (Clock::default(), None);
+        }
+        if *answer == alone { Ok(()) } else { Err(format!("demand 1: more than a refusal: {answer:?}")) }
+    }
 
-/// What is promised of anything handed in for a clock: no reading is below its backstop or outside 0..END, a refused
-/// update hands it back unaltered, and where it passes the boundary's test, what an update leaves passes again.
-fn check_promises(clock: &Clock, read: &Answer, updated: &Answer) -> Result<(), Difference> {
-    match *read {
-        Answer::Reading { refusal: 0, value } if value < clock.backstop.max(0) || i128::from(value) > END => {
+    /// What is promised of a reading also on a clock that is made up: it is not below the backstop, and in the range.
+    fn read(&mut self, now: i64, value: i64) -> Result<(), String> {
+        if value < self.clock.backstop.max(0) || value > END {
             return Err(format!("the reading {value} is below the backstop or outside 0..END"));
         }
-        _ => {}
+        self.witness.as_mut().map_or(Ok(()), |witness| witness.reads(now, value))
     }
-    match updated {
-        Answer::Clock { refusal, clock: after } => {
-            check_unaltered(clock, *refusal, after)?;
-            if is_clock(clock) { check_is_clock(after) } else { Ok(()) }
-        }
-        _ => Err(other_kind(updated)),
+
+    /// What an update leaves of a clock is a clock.
+    fn updated(&mut self, now: i64, after: Clock) -> Result<(), String> {
+        let before = std::mem::replace(&mut self.clock, after);
+        self.check_clock()?;
+        self.witness.as_mut().map_or(Ok(()), |witness| witness.updated(now, &before, &after))
+    }
+
+    fn check_clock(&self) -> Result<(), String> {
+        let failing = failing(&self.clock);
+        let told = |&part: &usize| Err(format!("no clock, it fails '{}': {:?}", PARTS[part].0, self.clock));
+        failing.first().map_or(Ok(()), told)
     }
 }
 
-fn check_is_clock(clock: &Clock) -> Result<(), Difference> {
-    match failing(clock).next() {
-        None => Ok(()),
-        Some(part) => Err(format!("no clock, by {}: {clock}", hyphenated(&part))),
+/// Demand 2: an accepted slip is rewritten byte for byte. Its unflagged arguments are 0.
+fn check_rewritten(bytes: &[u8], request: Request) -> Result<(), String> {
+    let rewritten = library::write_slip(request, &vec![0xAA; bytes.len()]);
+    let (length, refusal) = (bytes.len(), NO_REFUSAL);
+    let alike = rewritten == Answer::Written(Written { length, refusal }, bytes.to_vec());
+    if alike && request == or_else(&request, &Request::default()) {
+        return Ok(());
     }
+    Err(format!("demand 2: the slip is rewritten otherwise: {rewritten:?}"))
 }
 
-fn check_unaltered(before: &Clock, refusal: u8, after: &Clock) -> Result<(), Difference> {
-    if refusal != 0 && after != before {
-        return Err(format!("demand 1: the refused update altered the clock to {after}"));
+/// Demand 2: a written slip reads back as the same request, by its word and its flagged arguments. It has the length
+/// that is told of it, and nothing behind it is touched.
+fn check_read_back(asked: &Request, before: &[u8], after: &[u8], length: usize) -> Result<(), String> {
+    let read = library::read_slip(after.get(..length).unwrap_or(after));
+    let request = or_else(asked, &Request::default());
+    let alike = read == Answer::Received(Received { request, refusal: NO_REFUSAL });
+    if alike && length == cementoad_slip_length(asked.word) && after.get(length..) == before.get(length..) {
+        return Ok(());
     }
-    Ok(())
-}
-
-/// The request with its unflagged arguments 0.
-fn only_flagged(request: &Request) -> Request {
-    Request {
-        word: request.word,
-        synthetic: if request.flags(second::SYNTHETIC) {
-            request.synthetic
-        } else {
-            0
-        },
-        reference: if request.flags(second::REFERENCE) {
-            request.reference
-        } else {
-            0
-        },
-        rate: if request.flags(second::RATE) { request.rate } else { 0 },
-        error: if request.flags(second::ERROR) { request.error } else { 0 },
-    }
-}
-
-/// Whether the list shows a difference, and one that is told with these words.
-pub fn differs(sides: Sides, calls: &[Call], words: &str) -> bool {
-    let mut tally = Tally::default();
-    let mut run = Run::new(sides, &mut tally);
-    let difference = calls.iter().find_map(|call| run.step(call).err());
-    difference.is_some_and(|difference| difference.contains(words))
-}
-
-/// The list with what each call came to, up to the first difference.
-pub fn told(sides: Sides, calls: &[Call]) -> String {
-    let mut text = String::new();
-    let mut tally = Tally::default();
-    let mut run = Run::new(sides, &mut tally);
-    for (at, call) in calls.iter().enumerate() {
-        let outcome = run.step(call);
-        let _ = writeln!(text, "{:3}. {call}", at + 1);
-        match outcome {
-            Ok(0) => writeln!(text, "      both accept; the clock: {}", run.clock),
-            Ok(refusal) => writeln!(text, "      both refuse with {refusal}"),
-            Err(difference) => {
-                let _ = writeln!(text, "      {difference}");
-                break;
-            }
-        }
-        .ok();
-    }
-    text
+    Err(format!("demand 2: the slip reads back otherwise: {read:?}"))
 }

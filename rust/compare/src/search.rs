@@ -1,160 +1,91 @@
-//! Looks for a list on which the two sides differ: first the fixed lists, then the stored lines, then as many made lists as are asked
-//! for.
+//! Looks for a list on which the two sides differ: first the fixed lists, then as many made lists as are asked for.
 
 use crate::call::Call;
-use crate::fixed::fixed_lists;
-use crate::generate::{call, creation};
-use crate::rng::Rng;
-use crate::run::{Run, Sides, differs, told};
-use crate::shrink::shrink;
-use crate::stored::{StoredFile, Unlike, stored_files};
-use crate::tally::Tally;
+use crate::fixed::{Step, fixed_lists};
+use crate::generate;
+use crate::is_clock::is_clock;
+use crate::met::Met;
+use crate::numbers::Rng;
+use crate::run::Run;
 
-/// A list that shows a difference, as short as it was made.
-#[derive(Clone, Debug)]
-pub struct Finding {
-    /// Which list it was.
-    pub name: String,
-    pub calls: Vec<Call>,
-    /// The list with both sides' answers.
-    pub told: String,
-}
+/// The most calls behind the first: on a clock, and on what is none.
+const LONGEST: [u64; 2] = [48, 8];
 
-#[derive(Clone, Debug, Default)]
-pub struct Outcome {
-    pub tally: Tally,
-    pub finding: Option<Finding>,
-    /// How many stored lines were told again alike.
-    pub stored_lines: usize,
-}
-
-/// Compares the fixed lists, the stored lines and then made lists, at least so many calls, or as many as it takes to find a
-/// difference.
-pub fn search(sides: Sides, seed: u64, calls: u64) -> Outcome {
-    let mut tally = Tally::default();
-    let found = match search_fixed(sides, &mut tally) {
-        Some(finding) => Err(finding),
-        None => search_stored(sides, &mut tally),
-    };
-    match found {
-        Err(finding) => Outcome {
-            tally,
-            finding: Some(finding),
-            stored_lines: 0,
-        },
-        Ok(stored_lines) => Outcome {
-            stored_lines,
-            ..search_made(sides, seed, calls, tally)
-        },
-    }
-}
-
-/// Compares made lists only, until the tally has so many calls or a difference is found.
-pub fn search_made(sides: Sides, seed: u64, calls: u64, tally: Tally) -> Outcome {
-    search_made_for(sides, seed, calls, tally, "")
-}
-
-/// As above, but a difference that is told without these words is passed over.
-pub fn search_made_for(sides: Sides, seed: u64, calls: u64, mut tally: Tally, words: &str) -> Outcome {
+/// Compares until so many calls were made, or until a list shows a difference; then it tells that list, made short.
+pub fn search(seed: u64, calls: u64, met: &mut Met) -> Result<(), String> {
+    fixed(met)?;
     let mut number = 0;
-    while tally.calls() < calls {
-        let list = make_list(sides, seed, number, &mut tally);
-        if let Some(list) = list.filter(|list| differs(sides, list, words)) {
-            let finding = shrunk(sides, format!("list {number} of seed {seed}"), list, words);
-            return Outcome {
-                tally,
-                finding: Some(finding),
-                stored_lines: 0,
-            };
+    while met.calls() < calls {
+        if let Some(list) = make_list(seed, number, met) {
+            return Err(format!("list {number} of seed {seed}, made short:\n{}", shortened(list)));
         }
         number += 1;
     }
-    Outcome {
-        tally,
-        ..Outcome::default()
-    }
-}
-
-/// The longest list that is made.
-const LONGEST: u64 = 48;
-
-/// Makes one list call by call, each for the clock as it stands. The answer is the list up to a difference.
-fn make_list(sides: Sides, seed: u64, number: u64, tally: &mut Tally) -> Option<Vec<Call>> {
-    let mut rng = Rng::new(seed, number);
-    let mut run = Run::new(sides, tally);
-    let mut list = vec![creation(&mut rng)];
-    if run.step(&list[0]).is_err() {
-        return Some(list);
-    }
-    let length = if run.has_clock() {
-        1 + rng.below(LONGEST)
-    } else {
-        rng.below(3)
-    };
-    for _ in 0..length {
-        let next = call(&mut rng, &run.clock);
-        list.push(next.clone());
-        if run.step(&next).is_err() {
-            return Some(list);
-        }
-    }
-    None
+    Ok(())
 }
 
 /// Runs the fixed lists, whose refusals are known from the paper, or from the boundary's test.
-fn search_fixed(sides: Sides, tally: &mut Tally) -> Option<Finding> {
-    for list in fixed_lists() {
-        let calls: Vec<Call> = list.steps.iter().map(|(call, _)| call.clone()).collect();
-        let mut run = Run::new(sides, tally);
-        for (at, (call, expected)) in list.steps.iter().enumerate() {
-            match run.step(call) {
-                Err(_) => return Some(shrunk(sides, list.name.to_string(), calls, "")),
-                Ok(refusal) if refusal != *expected => {
-                    let calls = calls[..=at].to_vec();
-                    let told = format!("{}      but it should be {expected}\n", told(sides, &calls));
-                    return Some(Finding {
-                        name: list.name.to_string(),
-                        calls,
-                        told,
-                    });
-                }
-                Ok(_) => {}
+fn fixed(met: &mut Met) -> Result<(), String> {
+    for (name, steps) in fixed_lists() {
+        let mut run = Run::new(met);
+        for (at, Step { call, refusal, answer }) in steps.iter().enumerate() {
+            let calls = || steps[..=at].iter().map(|step| step.call.clone()).collect();
+            let given = run.step(call).map_err(|_| format!("{name}:\n{}", shortened(calls())))?;
+            if given.refusal() != *refusal || answer.as_ref().is_some_and(|answer| given != *answer) {
+                return Err(format!("{name}: {call:?}\n  expected {refusal} {answer:?}\n  but both: {given:?}\n"));
             }
         }
     }
-    None
+    Ok(())
 }
 
-/// Runs the calls of the stored lines, and tells each line again. The answer is how many there are.
-fn search_stored(sides: Sides, tally: &mut Tally) -> Result<usize, Finding> {
-    let mut lines = 0;
-    for file in stored_files() {
-        lines += search_file(sides, &file, tally)?;
-    }
-    Ok(lines)
-}
-
-fn search_file(sides: Sides, file: &StoredFile, tally: &mut Tally) -> Result<usize, Finding> {
-    let name = |line: usize| format!("line {line} of {}", file.name);
-    let unlike = |unlike: Unlike| Finding {
-        name: name(unlike.line),
-        calls: Vec::new(),
-        told: unlike.told,
-    };
-    for (line, calls) in file.lists().map_err(unlike)? {
-        let mut run = Run::new(sides, tally);
-        if calls.iter().any(|call| run.step(call).is_err()) {
-            return Err(shrunk(sides, name(line), calls, ""));
+/// Makes one list call by call, each for the clock as it stands. The answer is the list up to a difference.
+fn make_list(seed: u64, number: u64, met: &mut Met) -> Option<Vec<Call>> {
+    let mut rng = Rng::new(seed, number);
+    let mut run = Run::new(met);
+    let mut list = vec![generate::beginning(&mut rng)];
+    let mut length = 1;
+    while run.step(&list[list.len() - 1]).is_ok() {
+        if list.len() == 1 {
+            length += rng.below(LONGEST[usize::from(!is_clock(&run.clock))]);
         }
+        if list.len() as u64 > length {
+            return None;
+        }
+        list.push(generate::call(&mut rng, &run.clock));
     }
-    file.told_again(sides.second).map_err(unlike)
+    Some(list)
 }
 
-fn shrunk(sides: Sides, name: String, list: Vec<Call>, words: &str) -> Finding {
-    let calls = shrink(list, &|calls| differs(sides, calls, words));
-    Finding {
-        name: format!("{name}, made short"),
-        told: told(sides, &calls),
-        calls,
+/// Tells the list without runs of calls that it differs without, long ones first.
+fn shortened(mut list: Vec<Call>) -> String {
+    let mut length = list.len();
+    while length > 0 {
+        let mut at = 0;
+        while at < list.len() {
+            let mut fewer = list.clone();
+            fewer.drain(at..list.len().min(at + length));
+            if told(&fewer).1 {
+                list = fewer;
+            } else {
+                at += length;
+            }
+        }
+        length /= 2;
     }
+    told(&list).0
+}
+
+/// The list with what each call came to, and whether a difference is among it.
+fn told(list: &[Call]) -> (String, bool) {
+    let (mut text, mut differs) = (String::new(), false);
+    let mut met = Met::new();
+    let mut run = Run::new(&mut met);
+    for (call, number) in list.iter().zip(1..) {
+        let outcome = run.step(call);
+        differs |= outcome.is_err();
+        let outcome = outcome.map_or_else(|difference| difference, |answer| format!("both: {answer:?}"));
+        text += &format!("{number:3}. {call:?}\n     {call:x?}\n     {outcome}\n");
+    }
+    (text, differs)
 }

@@ -1,76 +1,53 @@
-//! The ideal line of 01, kept by the history: fed each call's arguments and whether it was accepted, and nothing out of a clock.
+//! The ideal line, in millionths of a nanosecond and never rounded (01, The ideal line).
 
-use crate::types::*;
+use crate::clock::{AUTO_START, MILLION, RATE, Request, SYNTHETIC};
 
-/// A line without rounding: a time Q, a value W in millionths, a rate B, and the count K of demand 3.
+/// The line through W millionths at Q with the rate B, and the roundings K that a reading may be behind it by.
 #[derive(Clone, Copy, Debug, PartialEq, Eq)]
-pub struct IdealLine {
+pub struct Ideal {
     pub q: i128,
     pub w: i128,
     pub b: i128,
     pub k: i128,
 }
 
-impl IdealLine {
-    /// The value at t in millionths.
+impl Ideal {
+    /// The value at t, in millionths.
     pub fn value(&self, t: i128) -> i128 {
         self.w + (t - self.q) * (MILLION + self.b)
     }
 
-    /// Demand 3: a reading at now, put into millionths, is never above the ideal and below it by at most 999,999 times K.
+    /// Demand 3 of one reading at now: not above the ideal value, and behind it by less than a nanosecond for each
+    /// of the K roundings.
     pub fn bounds(&self, reading: i128, now: i128) -> bool {
-        let below = self.value(now) - reading * MILLION;
-        0 <= below && below <= 999_999 * self.k
+        let behind = self.value(now) - reading * MILLION;
+        behind >= 0 && behind <= 999_999 * self.k
     }
 }
 
-/// The ideal line of one clock's history, none before the start.
-#[derive(Clone, Copy, Debug, Default, PartialEq, Eq)]
-pub struct Ideal {
-    pub line: Option<IdealLine>,
+/// The line with this Q, W, B and K.
+fn drawn(q: i128, w: i128, b: i128, k: i128) -> Ideal {
+    Ideal { q, w, b, k }
 }
 
-impl Ideal {
-    /// A creation begins a history: 'with auto start counts as a value set of 0 at 0'.
-    pub fn create(word: u8, accepted: bool) -> Self {
-        let starts = accepted && word & AUTO_START != 0;
-        Ideal {
-            line: starts.then_some(IdealLine { q: 0, w: 0, b: 0, k: 1 }),
-        }
-    }
+/// The line of an accepted creation: value 0 set at 0 by an automatic start, none otherwise.
+pub fn ideal_at_creation(word: u8) -> Option<Ideal> {
+    (word & AUTO_START != 0).then_some(drawn(0, 0, 0, 1))
+}
 
-    /// An update moves the line where it is accepted and flags a value or a rate. Every other call moves nothing.
-    pub fn update(&mut self, request: &Request, now: i64, accepted: bool) {
-        if !accepted {
-            return;
-        }
-        let asked = request.asked();
-        let p = asked.reference.unwrap_or(now.into());
-        match (asked.synthetic, asked.rate) {
-            (Some(synthetic), rate) => self.set(p, synthetic, rate),
-            (None, Some(rate)) => self.change_rate(p, rate),
-            (None, None) => {}
-        }
+/// The line after an update with these arguments, accepted or not.
+pub fn ideal_after(ideal: Option<Ideal>, request: &Request, now: i64, accepted: bool) -> Option<Ideal> {
+    if !accepted {
+        return ideal;
     }
-
-    fn set(&mut self, p: i128, synthetic: i128, rate: Option<i128>) {
-        let old_rate = self.line.map_or(0, |line| line.b);
-        self.line = Some(IdealLine {
-            q: p,
-            w: synthetic * MILLION,
-            b: rate.unwrap_or(old_rate),
-            k: 1,
-        });
-    }
-
-    fn change_rate(&mut self, p: i128, rate: i128) {
-        if let Some(line) = &mut self.line {
-            *line = IdealLine {
-                q: p,
-                w: line.value(p),
-                b: rate,
-                k: line.k + 1,
-            };
-        }
+    let p = request.point(i128::from(now));
+    let s = i128::from(request.synthetic);
+    let new_b = i128::from(request.rate);
+    let old_b = ideal.map_or(0, |old| old.b);
+    match (request.has(SYNTHETIC), request.has(RATE)) {
+        (true, false) => Some(drawn(p, s * MILLION, old_b, 1)),
+        (true, true) => Some(drawn(p, s * MILLION, new_b, 1)),
+        (false, true) => ideal.map(|old| drawn(p, old.value(p), new_b, old.k + 1)),
+        (false, false) => ideal,
     }
 }

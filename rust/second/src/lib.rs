@@ -1,22 +1,17 @@
-//! A second clock, written from the customer's papers alone ('01' is the scope paper, `01-scope.md`). It shares nothing with the
-//! library, so that a thought that went wrong there has to go wrong a second time, in the same way, to stay hidden.
+//! A clock, its update slips and the ideal line beside it, as plain functions over plain structs.
 //!
-//! Whole numbers are 128 bits wide, so that no sum or product here can overflow, whatever is handed in; under `--profile checked` one
-//! that did would be seen. The rules are the methods of [`Rules`] and [`SlipRules`], each rule once and in 01's order; [`Right`] is the
-//! program with every rule as it is written. A [`Faulty`] program has one of them wrong, to show that a comparison finds it; nothing of
-//! that is left in [`Right`].
+//! Everything follows the paper 01 in its order and with its numbers. All times, values and rates are kept as 128-bit
+//! whole numbers, so that no argument of 64 bits can overflow anything. Refusals are written as tables of rows
+//! (number, applies), of which the first that applies is the answer; only a slip too short for its next row is told
+//! at once.
 
-mod fault;
+mod clock;
 mod ideal;
-mod rules;
 mod slip;
-mod types;
 
-#[cfg(test)]
-mod cases;
-
-pub use fault::{Fault, Faulty, hyphenated};
-pub use ideal::{Ideal, IdealLine};
-pub use rules::{Case, Place, Right, Rules};
-pub use slip::{LONGEST_SLIP, SlipRules, slip_length};
-pub use types::*;
+pub use clock::{
+    AUTO_START, CONTINUOUS, Clock, Details, END, ERROR, Line, MAX_RATE, MILLION, MONOTONIC, RATE, REFERENCE, Request,
+    SYNTHETIC, VERSION, create, details, new_line, read, update, value,
+};
+pub use ideal::{Ideal, ideal_after, ideal_at_creation};
+pub use slip::{LONGEST_SLIP, read_slip, slip_length, write_slip};

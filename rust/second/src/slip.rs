@@ -1,173 +1,123 @@
-//! The update slip: bit-packed, most significant first.
+//! The update slip, read and written (01, The update slip).
 
-use crate::rules::{Place, Right, Rules};
-use crate::types::*;
+use crate::clock::{ERROR, MAX_RATE, RATE, REFERENCE, Request, SYNTHETIC, bad_rate, bad_time, bad_word, first};
 
-/// The bytes of the longest slip.
+/// The bytes of a slip with every field: 213 bits.
 pub const LONGEST_SLIP: usize = 27;
-
-const HEADER_BITS: usize = 16;
-/// The fields behind the header in their order, each with its flag and its bits.
+/// The bits of the header, the top of the update word.
+const HEADER: usize = 16;
+/// The fields in the order of the slip, each with its flag and its bits.
 const FIELDS: [(u64, usize); 4] = [(SYNTHETIC, 61), (REFERENCE, 61), (RATE, 11), (ERROR, 64)];
 
-/// The bits of a slip with this word, without its padding.
-pub fn slip_bits(word: u64) -> usize {
-    HEADER_BITS
-        + FIELDS
-            .iter()
-            .filter(|(flag, _)| word & flag != 0)
-            .map(|(_, bits)| bits)
-            .sum::<usize>()
-}
-
-/// The whole bytes of a slip with this word.
+/// The whole bytes of a slip with this word's flags, whatever else the word has.
 pub fn slip_length(word: u64) -> usize {
-    slip_bits(word).div_ceil(8)
+    let mut bits = HEADER;
+    for (flag, width) in FIELDS {
+        if word & flag != 0 {
+            bits += width;
+        }
+    }
+    bits.div_ceil(8)
 }
 
-impl SlipRules for Right {}
-
-pub trait SlipRules: Rules {
-    /// How many bytes a slip of this word has.
-    fn slip_length(&self, word: u64) -> usize {
-        slip_length(word)
-    }
-
-    /// The request of the slip that is all of the bytes.
-    fn read_slip(&self, bytes: &[u8]) -> Received {
-        match self.request_received(bytes) {
-            Ok(request) => Received { refusal: 0, request },
-            Err(refusal) => Received {
-                refusal,
-                request: Request::default(),
-            },
-        }
-    }
-
-    /// 01: '18 fewer than 2 bytes; 3 as above; 18 fewer bytes than the header calls for; 6 a rate field above 2000; 19 a padding bit
-    /// set; 20 bytes left over.'
-    fn request_received(&self, bytes: &[u8]) -> Result<Request, u8> {
-        let mut bits = BitReader { bytes, place: 0 };
-        self.refuse(Place::SlipHeader, 18, bytes.len() < 2)?;
-        let word = bits.take(HEADER_BITS) << 48;
-        self.refuse(Place::SlipHeader, 3, self.wrong_update_word(word))?;
-        let length = slip_length(word);
-        self.refuse(Place::SlipFields, 18, bytes.len() < length)?;
-        let mut fields = [0; 4];
-        for (field, (flag, width)) in fields.iter_mut().zip(FIELDS) {
-            if word & flag != 0 {
-                *field = bits.take(width);
-            }
-        }
-        let padding = bits.take(8 * length - slip_bits(word));
-        self.refuse(Place::SlipFields, 6, self.rate_field_above(fields[2]))?;
-        self.refuse(Place::SlipFields, 19, padding != 0)?;
-        self.refuse(Place::SlipFields, 20, bytes.len() > length)?;
-        Ok(self.request_of(word, fields))
-    }
-
-    fn rate_field_above(&self, field: u64) -> bool {
-        field > 2000
-    }
-
-    /// 01: 'Reading gives word and arguments, unflagged ones 0.'
-    fn request_of(&self, word: u64, fields: [u64; 4]) -> Request {
-        let [synthetic, reference, rate, error] = fields;
-        Request {
-            word,
-            synthetic: synthetic as i64,
-            reference: reference as i64,
-            rate: if word & RATE != 0 { rate as i32 - 1000 } else { 0 },
-            error,
-        }
-    }
-
-    /// Writes the request as a slip to the front of the buffer.
-    fn write_slip(&self, request: &Request, buffer: &mut [u8]) -> Written {
-        match self.slip_written(request, buffer) {
-            Ok(length) => Written { refusal: 0, length },
-            Err(refusal) => Written { refusal, length: 0 },
-        }
-    }
-
-    /// 01: 'Writing: 3, 5, 6, then 21 buffer shorter than the slip. It answers the length and touches only that many bytes'.
-    fn slip_written(&self, request: &Request, buffer: &mut [u8]) -> Result<usize, u8> {
-        let asked = request.asked();
-        let length = slip_length(request.word);
-        self.refuse(Place::SlipWrite, 3, self.wrong_update_word(request.word))?;
-        self.refuse(Place::SlipWrite, 5, self.value_outside(&asked))?;
-        self.refuse(Place::SlipWrite, 6, self.rate_outside(&asked))?;
-        self.refuse(Place::SlipWrite, 21, self.too_short(buffer, length))?;
-        let mut bits = BitWriter {
-            bytes: buffer,
-            place: 0,
-        };
-        bits.clear(length);
-        bits.put(HEADER_BITS, request.word >> 48);
-        for (field, (flag, width)) in self.fields_of(request).into_iter().zip(FIELDS) {
-            if request.flags(flag) {
-                bits.put(width, field);
-            }
-        }
-        Ok(length)
-    }
-
-    fn too_short(&self, buffer: &[u8], length: usize) -> bool {
-        buffer.len() < length
-    }
-
-    /// The fields' bits, flagged or not: the rate as a + 1000.
-    fn fields_of(&self, request: &Request) -> [u64; 4] {
-        let rate = (i128::from(request.rate) + 1000) as u64;
-        [request.synthetic as u64, request.reference as u64, rate, request.error]
-    }
-}
-
-/// Takes fields off lent bytes. Behind the last byte it takes zeros, which only a faulty program comes to.
-struct BitReader<'a> {
+/// The lent bytes and a place in them, in bits.
+struct Reader<'a> {
     bytes: &'a [u8],
     place: usize,
 }
 
-impl BitReader<'_> {
-    /// The next field of at most 64 bits.
+impl Reader<'_> {
+    /// The number in the next so many bits, the most significant first.
     fn take(&mut self, width: usize) -> u64 {
-        let end = self.place + width;
-        let mut gathered: u128 = 0;
-        for at in self.place / 8..end.div_ceil(8) {
-            gathered = gathered << 8 | u128::from(self.bytes.get(at).copied().unwrap_or(0));
+        let mut field = 0;
+        for _ in 0..width {
+            let bit = (self.bytes[self.place / 8] >> (7 - self.place % 8)) & 1;
+            field = (field << 1) | u64::from(bit);
+            self.place += 1;
         }
-        self.place = end;
-        (gathered >> (end.next_multiple_of(8) - end)) as u64 & low_bits(width)
+        field
     }
 }
 
-/// Puts fields into a lent buffer. What does not fit into it is dropped, which only a faulty program comes to.
-struct BitWriter<'a> {
-    bytes: &'a mut [u8],
-    place: usize,
-}
-
-impl BitWriter<'_> {
-    /// Makes the first bytes zero; fields are then put into zeros, and the padding is there.
-    fn clear(&mut self, length: usize) {
-        self.bytes.iter_mut().take(length).for_each(|byte| *byte = 0);
+/// Reads a slip: word and arguments, those without a flag being 0. Refused, it gives a request of zeros.
+pub fn read_slip(bytes: &[u8]) -> (u8, Request) {
+    let nothing = Request::default();
+    if bytes.len() < 2 {
+        return (18, nothing);
     }
-
-    /// Puts a field's lowest bits next.
-    fn put(&mut self, width: usize, field: u64) {
-        let end = self.place + width;
-        let mut rest = u128::from(field & low_bits(width)) << (end.next_multiple_of(8) - end);
-        for at in (self.place / 8..end.div_ceil(8)).rev() {
-            if let Some(byte) = self.bytes.get_mut(at) {
-                *byte |= rest as u8;
-            }
-            rest >>= 8;
+    let mut reader = Reader { bytes, place: 0 };
+    let word = reader.take(HEADER) << 48;
+    if bad_word(word) {
+        return (3, nothing);
+    }
+    let length = slip_length(word);
+    if bytes.len() < length {
+        return (18, nothing);
+    }
+    let mut request = Request { word, ..nothing };
+    for (flag, width) in FIELDS {
+        if request.has(flag) {
+            set_field(&mut request, flag, reader.take(width));
         }
-        self.place = end;
+    }
+    let padding = length * 8 - reader.place;
+    let refusal = first(&[
+        (6, i128::from(request.rate) + MAX_RATE > 2000),
+        (19, reader.take(padding) != 0),
+        (20, bytes.len() > length),
+    ]);
+    (refusal, if refusal == 0 { request } else { nothing })
+}
+
+/// Writes a slip into the buffer's first bytes and gives its length. Refused, it writes nothing and gives 0.
+pub fn write_slip(request: &Request, buffer: &mut [u8]) -> (u8, usize) {
+    let length = slip_length(request.word);
+    let refusal = first(&[
+        (3, bad_word(request.word)),
+        (5, bad_time(request)),
+        (6, bad_rate(request)),
+        (21, buffer.len() < length),
+    ]);
+    if refusal != 0 {
+        return (refusal, 0);
+    }
+    let mut bits = Vec::new();
+    push(&mut bits, HEADER, request.word >> 48);
+    for (flag, width) in FIELDS {
+        if request.has(flag) {
+            push(&mut bits, width, field(request, flag));
+        }
+    }
+    bits.resize(length * 8, false);
+    for (byte, eight) in buffer.iter_mut().zip(bits.chunks(8)) {
+        *byte = eight.iter().fold(0, |byte, bit| (byte << 1) | u8::from(*bit));
+    }
+    (0, length)
+}
+
+/// Adds a number's last so many bits, the most significant first.
+fn push(bits: &mut Vec<bool>, width: usize, number: u64) {
+    for place in (0..width).rev() {
+        bits.push((number >> place) & 1 == 1);
     }
 }
 
-fn low_bits(width: usize) -> u64 {
-    ((1u128 << width) - 1) as u64
+/// The argument of this flag as the slip has it; a rate from 0 up.
+fn field(request: &Request, flag: u64) -> u64 {
+    match flag {
+        SYNTHETIC => request.synthetic as u64,
+        REFERENCE => request.reference as u64,
+        RATE => (i128::from(request.rate) + MAX_RATE) as u64,
+        _ => request.error,
+    }
+}
+
+/// Takes the argument of this flag out of its field.
+fn set_field(request: &mut Request, flag: u64, field: u64) {
+    match flag {
+        SYNTHETIC => request.synthetic = field as i64,
+        REFERENCE => request.reference = field as i64,
+        RATE => request.rate = (i128::from(field) - MAX_RATE) as i32,
+        _ => request.error = field,
+    }
 }

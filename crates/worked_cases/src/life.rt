@@ -1,0 +1,122 @@
+// A clock's life on one line: each call writes what is asked and what the clock answers.
+use clock::Clock;
+use clock::Created;
+use clock::Reading;
+use clock::Request;
+
+// A life begins with a creation.
+pub fn create(word: u8, backstop: i64, now: i64) -> Created {
+    time(now);
+    lines::write(b" create");
+    kind(word);
+    argument(backstop != 0, b", backstop ", backstop);
+    let life = Clock::create(word, backstop, now);
+    match life {
+        Created::Made(_) => lines::write(b": created"),
+        Created::Refused(n) => refused(n),
+    }
+    life
+}
+
+// The life goes on as the update leaves it.
+pub fn update(life: Created, request: Request, now: i64) -> Created {
+    lines::write(b"; ");
+    time(now);
+    arguments(request);
+    match life {
+        Created::Made(clock) => {
+            let updated = clock.update(request, now);
+            outcome(updated.refusal);
+            let next = updated.clock;
+            Created::Made(next)
+        }
+        Created::Refused(n) => {
+            lines::write(b": no clock");
+            Created::Refused(n)
+        }
+    }
+}
+
+pub fn read(life: Created, now: i64) {
+    lines::write(b"; ");
+    time(now);
+    match life {
+        Created::Made(clock) => told(clock.read(now)),
+        Created::Refused(_) => lines::write(b" no clock"),
+    }
+}
+
+fn told(reading: Reading) {
+    if reading.refusal == 0 {
+        lines::write(b" reads ");
+    } else {
+        lines::write(b" read");
+        refused(reading.refusal);
+        lines::write(b", value ");
+    }
+    lines::signed(reading.value);
+}
+
+fn outcome(refusal: u8) {
+    if refusal == 0 {
+        lines::write(b": taken");
+    } else {
+        refused(refusal);
+    }
+}
+
+fn time(now: i64) {
+    lines::write(b"at ");
+    lines::signed(now);
+}
+
+fn kind(word: u8) {
+    named(word == 0, b" plain");
+    named(word / Clock::MONOTONIC % 2 == 1, b" monotonic");
+    named(word / Clock::CONTINUOUS % 2 == 1, b" continuous");
+    named(word / Clock::AUTO_START % 2 == 1, b" auto start");
+}
+
+fn named(is: bool, name: &[u8]) {
+    if is {
+        lines::write(name);
+    }
+}
+
+// What is flagged.
+fn arguments(request: Request) {
+    let Request {
+        word,
+        synthetic,
+        reference,
+        rate,
+        error,
+    } = request;
+    argument(word / Request::SYNTHETIC % 2 == 1, b" set ", synthetic);
+    argument(
+        word / Request::REFERENCE % 2 == 1,
+        b" reference ",
+        reference,
+    );
+    argument(word / Request::RATE % 2 == 1, b" rate ", lines::wide(rate));
+    bound(word / Request::ERROR % 2 == 1, error);
+}
+
+fn argument(flagged: bool, name: &[u8], x: i64) {
+    if flagged {
+        lines::write(name);
+        lines::signed(x);
+    }
+}
+
+fn bound(flagged: bool, error: u64) {
+    if flagged {
+        lines::write(b" error ");
+        lines::number(error);
+    }
+}
+
+fn refused(refusal: u8) {
+    lines::write(b": refused ");
+    lines::number(refusal as u64);
+}

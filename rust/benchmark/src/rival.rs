@@ -1,0 +1,218 @@
+//! The rival: the clock of the scope paper ('01', `01-scope.md`) in plain Rust, as one writes it without proofs.
+//!
+//! Numbers are 128 bits wide, so that no sum or product of what is handed in can overflow. The rules stand in 01's
+//! order, refusals by its numbers; a refusal of 0 is none. Clocks are trusted: each is one that creation and updates
+//! gave.
+
+mod slip;
+
+use cementoad_sys::{AUTO_START, CONTINUOUS, ERROR, MONOTONIC, RATE, REFERENCE, Request, SYNTHETIC};
+pub use slip::{read_slip, slip_length, write_slip};
+
+/// The end of the range of times and values.
+const END: i128 = (1 << 61) - 1;
+/// The widest rate adjustment, in parts per million.
+const MAX_RATE: i128 = 1000;
+/// Parts in a whole, for rates; millionths in a nanosecond, for values.
+const MILLION: i128 = 1_000_000;
+/// The error bound that means unknown, all ones.
+const UNKNOWN_ERROR: i128 = (1 << 64) - 1;
+/// How many generations there are before they begin again at 0.
+const GENERATIONS: i128 = 1 << 32;
+
+/// A line (R0, S0, a).
+#[derive(Clone, Copy, Debug, Default, PartialEq)]
+pub struct Line {
+    pub reference: i128,
+    pub synthetic: i128,
+    pub rate: i128,
+}
+
+impl Line {
+    /// The value at t, rounded down also before the reference (01, 'The clock we sell').
+    fn value(&self, t: i128) -> i128 {
+        self.synthetic + ((t - self.reference) * (MILLION + self.rate)).div_euclid(MILLION)
+    }
+}
+
+/// A clock. Its line is zeros before the start.
+#[derive(Clone, Copy, Debug, Default, PartialEq)]
+pub struct Clock {
+    pub word: u8,
+    pub backstop: i128,
+    pub started: bool,
+    pub line: Line,
+    pub error: i128,
+    pub generation: i128,
+    /// The time of the latest accepted update, or of creation before any.
+    pub latest: i128,
+}
+
+impl Clock {
+    fn is(&self, bit: u8) -> bool {
+        self.word & bit != 0
+    }
+}
+
+/// What a clock tells of itself at now: all that it holds.
+#[derive(Clone, Copy, Debug, Default, PartialEq)]
+pub struct Details {
+    pub clock: Clock,
+    pub now: i128,
+}
+
+/// The arguments that a request flags; the others are ignored (01, 'The update word and its effect').
+struct Asked {
+    synthetic: Option<i128>,
+    reference: Option<i128>,
+    rate: Option<i128>,
+    error: Option<i128>,
+}
+
+impl Asked {
+    fn of(request: &Request) -> Asked {
+        let flags = |flag| request.word & flag != 0;
+        Asked {
+            synthetic: flags(SYNTHETIC).then_some(request.synthetic.into()),
+            reference: flags(REFERENCE).then_some(request.reference.into()),
+            rate: flags(RATE).then_some(request.rate.into()),
+            error: flags(ERROR).then_some(request.error.into()),
+        }
+    }
+
+    /// Refusal 5.
+    fn value_outside(&self) -> bool {
+        self.synthetic.is_some_and(outside) || self.reference.is_some_and(outside)
+    }
+
+    /// Refusal 6.
+    fn rate_outside(&self) -> bool {
+        self.rate.is_some_and(|rate| rate < -MAX_RATE || rate > MAX_RATE)
+    }
+}
+
+fn outside(time: i128) -> bool {
+    time < 0 || time > END
+}
+
+/// Refusal 3 of an update word: its top six bits are not 2, or one of its 54 lowest bits is set.
+fn wrong_word(word: u64) -> bool {
+    word >> 58 != 2 || word & (ERROR - 1) != 0
+}
+
+/// A check: where it applies, its number is the answer.
+fn refuse(number: u8, applies: bool) -> Result<(), u8> {
+    if applies { Err(number) } else { Ok(()) }
+}
+
+/// The refusal beside the value that is answered with it.
+fn answer<T>(result: Result<T, u8>, refused: T) -> (u8, T) {
+    match result {
+        Ok(value) => (0, value),
+        Err(refusal) => (refusal, refused),
+    }
+}
+
+/// A new clock, or zeros.
+pub fn create(word: u8, backstop: i64, now: i64) -> (u8, Clock) {
+    answer(created(word, backstop.into(), now.into()), Clock::default())
+}
+
+/// Creation's refusals stand below the table of 01, 'When the clock says no'.
+fn created(word: u8, backstop: i128, now: i128) -> Result<Clock, u8> {
+    let started = word & AUTO_START != 0;
+    refuse(1, outside(now))?;
+    refuse(3, word & !(MONOTONIC | CONTINUOUS | AUTO_START) != 0)?;
+    refuse(15, word & CONTINUOUS != 0 && word & MONOTONIC == 0)?;
+    refuse(16, outside(backstop))?;
+    refuse(17, started && backstop > now)?;
+    Ok(Clock { word, backstop, started, line: Line::default(), error: UNKNOWN_ERROR, generation: 1, latest: now })
+}
+
+/// The clock's value at now, or 0.
+pub fn read(clock: &Clock, now: i64) -> (u8, i128) {
+    answer(value_read(clock, now.into()), 0)
+}
+
+fn value_read(clock: &Clock, now: i128) -> Result<i128, u8> {
+    refuse(1, outside(now))?;
+    refuse(2, now < clock.latest)?;
+    let value = if clock.started { clock.line.value(now) } else { clock.backstop };
+    refuse(12, value > END)?;
+    Ok(value)
+}
+
+/// What the clock tells of itself at now, or zeros.
+pub fn details(clock: &Clock, now: i64) -> (u8, Details) {
+    answer(details_told(clock, now.into()), Details::default())
+}
+
+fn details_told(clock: &Clock, now: i128) -> Result<Details, u8> {
+    refuse(1, outside(now))?;
+    refuse(2, now < clock.latest)?;
+    let line = if clock.started { clock.line } else { Line::default() };
+    Ok(Details { clock: Clock { line, ..*clock }, now })
+}
+
+/// Whether the clock is started.
+pub fn started(clock: &Clock) -> bool {
+    clock.started
+}
+
+/// The clock as the request leaves it, or as it was.
+pub fn update(clock: &Clock, request: &Request, now: i64) -> (u8, Clock) {
+    answer(updated(clock, request.word, &Asked::of(request), now.into()), *clock)
+}
+
+/// The table of 01, 'When the clock says no', and then the effect. 12 to 14 speak of a line that is replaced.
+fn updated(clock: &Clock, word: u64, asked: &Asked, now: i128) -> Result<Clock, u8> {
+    let sets = asked.synthetic.is_some();
+    let refers = asked.reference.is_some();
+    let rates = asked.rate.is_some();
+    refuse(1, outside(now))?;
+    refuse(2, now < clock.latest)?;
+    refuse(3, wrong_word(word))?;
+    refuse(4, !sets && !refers && !rates && asked.error.is_none())?;
+    refuse(5, asked.value_outside())?;
+    refuse(6, asked.rate_outside())?;
+    refuse(7, refers && !sets && !rates)?;
+    refuse(8, !clock.started && !sets)?;
+    refuse(9, clock.is(CONTINUOUS) && refers)?;
+    refuse(10, clock.is(CONTINUOUS) && clock.started && sets)?;
+    refuse(11, clock.is(MONOTONIC) && clock.started && sets && rates)?;
+    let new = new_line(clock, asked, now);
+    if let Some(line) = &new {
+        let value = line.value(now);
+        refuse(12, outside(line.synthetic) || value > END)?;
+        refuse(13, value < clock.backstop)?;
+        let falls = || value < clock.line.value(now);
+        refuse(14, clock.is(MONOTONIC) && clock.started && falls())?;
+    }
+    Ok(effect(clock, asked, now, new))
+}
+
+/// The table of 01, 'The update word and its effect'; none where the line stays. A rate alone keeps the old line's
+/// value where the line turns, and the old rate is 0 before the start.
+fn new_line(clock: &Clock, asked: &Asked, now: i128) -> Option<Line> {
+    let reference = asked.reference.unwrap_or(now);
+    let (synthetic, rate) = match (asked.synthetic, asked.rate) {
+        (Some(synthetic), None) => (synthetic, if clock.started { clock.line.rate } else { 0 }),
+        (None, Some(rate)) => (clock.line.value(reference), rate),
+        (Some(synthetic), Some(rate)) => (synthetic, rate),
+        (None, None) => return None,
+    };
+    Some(Line { reference, synthetic, rate })
+}
+
+/// What 01 tells below that table.
+fn effect(clock: &Clock, asked: &Asked, now: i128, new: Option<Line>) -> Clock {
+    Clock {
+        word: clock.word,
+        backstop: clock.backstop,
+        started: clock.started || asked.synthetic.is_some(),
+        line: new.unwrap_or(clock.line),
+        error: asked.error.unwrap_or(clock.error),
+        generation: if new.is_some() { (clock.generation + 1) % GENERATIONS } else { clock.generation },
+        latest: now,
+    }
+}

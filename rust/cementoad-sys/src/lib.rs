@@ -1,0 +1,238 @@
+//! The boundary of the archive that `tools/archive` makes, as `include/cementoad.h` declares it. The crate `cementoad`
+//! puts Rust's own idioms around it.
+//!
+//! Call [`check_archive`] before anything else. Each function takes any numbers and ends; only the pointers of the two
+//! slip functions ask for care. Bytes between the fields of a struct may hold anything.
+#![deny(missing_docs)]
+
+mod abi;
+
+pub use abi::check_archive;
+
+/// The version of the boundary that is declared here. It goes up with every change of a struct, a function or a number
+/// that callers were built with. Where [`cementoad_abi`] answers another, nothing else of the archive may be called.
+pub const ABI: u32 = 1;
+
+/// The end of the range of times and values, 2^61 - 1.
+pub const END: i64 = (1 << 61) - 1;
+
+/// The widest rate adjustment, in parts per million.
+pub const MAX_RATE: i32 = 1000;
+
+/// The error bound that means unknown.
+pub const UNKNOWN_ERROR: u64 = u64::MAX;
+
+/// The bytes of the longest slip.
+pub const LONGEST_SLIP: usize = 27;
+
+/// The bit of a creation word for a clock whose readings never fall while the times don't.
+pub const MONOTONIC: u8 = 128;
+
+/// The bit of a creation word for a clock whose line is never broken. It asks for [`MONOTONIC`] too.
+pub const CONTINUOUS: u8 = 64;
+
+/// The bit of a creation word for a clock that starts at creation, as the line from 0 at 0.
+pub const AUTO_START: u8 = 32;
+
+/// The version of an update word, its top six bits.
+pub const VERSION_2: u64 = 2 << 58;
+
+/// The flag of the value to set.
+pub const SYNTHETIC: u64 = 1 << 57;
+
+/// The flag of the reference time at which the new line starts.
+pub const REFERENCE: u64 = 1 << 56;
+
+/// The flag of the rate adjustment.
+pub const RATE: u64 = 1 << 55;
+
+/// The flag of the error bound.
+pub const ERROR: u64 = 1 << 54;
+
+/// The refusal of an answer in which nothing is refused.
+pub const NO_REFUSAL: u8 = 0;
+
+/// The refusal, not of the paper and checked before all others, of what fails the test that is told at [`Clock`].
+pub const NOT_A_CLOCK: u8 = 255;
+
+/// A line through the point (reference, synthetic) that gains 1,000,000 + rate millionths of a nanosecond in each
+/// nanosecond.
+#[repr(C)]
+#[derive(Clone, Copy, Debug, Default, PartialEq, Eq, Hash)]
+pub struct Line {
+    /// The reference time of the point, in nanoseconds.
+    pub reference: i64,
+    /// The line's value there, in nanoseconds.
+    pub synthetic: i64,
+    /// The rate adjustment, in parts per million.
+    pub rate: i32,
+}
+
+/// A clock. Each call on one first tests what it is handed, and is refused with [`NOT_A_CLOCK`] unless creation would
+/// take the word and the backstop at the latest time, and
+/// - `started` is 1, the line's reference and synthetic lie in 0..END, its rate lies in -1000..1000, and its value at
+///   the latest time is not below the backstop; or
+/// - `started` is 0, auto start is not set, and line, error and generation are as creation leaves them.
+///
+/// So zeros are no clock. Of a made-up clock that passes nothing is promised but this: each call ends and answers by
+/// the same rules, what an update hands back passes again, and no reading is below the backstop or outside 0..END.
+#[repr(C)]
+#[derive(Clone, Copy, Debug, Default, PartialEq, Eq, Hash)]
+pub struct Clock {
+    /// The line that the clock follows, zeros before the start.
+    pub line: Line,
+    /// The value below which the clock never reads.
+    pub backstop: i64,
+    /// The time of the latest accepted update, or of creation.
+    pub latest: i64,
+    /// The error bound in nanoseconds, [`UNKNOWN_ERROR`] where it is unknown.
+    pub error: u64,
+    /// 1 at creation, one more each time the line is replaced, from 2^32 - 1 to 0.
+    pub generation: u32,
+    /// The creation word.
+    pub word: u8,
+    /// 1 once the clock is started, 0 before.
+    pub started: u8,
+}
+
+/// An update's word and arguments. The word's flags say which arguments count.
+#[repr(C)]
+#[derive(Clone, Copy, Debug, Default, PartialEq, Eq, Hash)]
+pub struct Request {
+    /// The version and the flags.
+    pub word: u64,
+    /// The value to set, in nanoseconds.
+    pub synthetic: i64,
+    /// The reference time at which the new line starts, in nanoseconds.
+    pub reference: i64,
+    /// The rate adjustment, in parts per million.
+    pub rate: i32,
+    /// The error bound in nanoseconds, [`UNKNOWN_ERROR`] where it is unknown.
+    pub error: u64,
+}
+
+/// A new clock, or zeros with a refusal.
+#[repr(C)]
+#[derive(Clone, Copy, Debug, PartialEq, Eq)]
+pub struct Created {
+    /// The new clock.
+    pub clock: Clock,
+    /// The refusal's number, 0 for none.
+    pub refusal: u8,
+}
+
+/// The clock after an update, or with a refusal what was handed in, unaltered, whether it is a clock or not.
+#[repr(C)]
+#[derive(Clone, Copy, Debug, PartialEq, Eq)]
+pub struct Updated {
+    /// The clock after the update.
+    pub clock: Clock,
+    /// The refusal's number, 0 for none.
+    pub refusal: u8,
+}
+
+/// A reading, 0 where it is refused.
+#[repr(C)]
+#[derive(Clone, Copy, Debug, PartialEq, Eq)]
+pub struct Reading {
+    /// The refusal's number, 0 for none.
+    pub refusal: u8,
+    /// The clock's value, in nanoseconds.
+    pub value: i64,
+}
+
+/// What a clock tells of itself at a time.
+#[repr(C)]
+#[derive(Clone, Copy, Debug, Default, PartialEq, Eq, Hash)]
+pub struct Details {
+    /// Whether the clock is started.
+    pub started: bool,
+    /// The line that the clock follows, zeros before the start.
+    pub line: Line,
+    /// The error bound in nanoseconds, [`UNKNOWN_ERROR`] where it is unknown.
+    pub error: u64,
+    /// 1 at creation, one more each time the line is replaced, from 2^32 - 1 to 0.
+    pub generation: u32,
+    /// The time of the latest accepted update, or of creation.
+    pub latest: i64,
+    /// The creation word.
+    pub word: u8,
+    /// The value below which the clock never reads.
+    pub backstop: i64,
+    /// The time at which the details were asked for.
+    pub now: i64,
+}
+
+impl Details {
+    /// The error bound in nanoseconds, or `None` where it is unknown.
+    pub fn error_bound(&self) -> Option<u64> {
+        (self.error != UNKNOWN_ERROR).then_some(self.error)
+    }
+}
+
+/// Details beside their refusal, which leaves them zeros.
+#[repr(C)]
+#[derive(Clone, Copy, Debug, PartialEq, Eq)]
+pub struct Detailed {
+    /// The refusal's number, 0 for none.
+    pub refusal: u8,
+    /// What the clock tells of itself.
+    pub details: Details,
+}
+
+/// A request that was read from a slip, zeros where it is refused.
+#[repr(C)]
+#[derive(Clone, Copy, Debug, PartialEq, Eq)]
+pub struct Received {
+    /// The slip's request.
+    pub request: Request,
+    /// The refusal's number, 0 for none.
+    pub refusal: u8,
+}
+
+/// How many bytes of a slip were written, 0 where it is refused.
+#[repr(C)]
+#[derive(Clone, Copy, Debug, PartialEq, Eq)]
+pub struct Written {
+    /// The slip's bytes, at the front of the buffer.
+    pub length: usize,
+    /// The refusal's number, 0 for none.
+    pub refusal: u8,
+}
+
+// The safe ones take and give numbers alone, and each is proved to end and answer for any of them.
+unsafe extern "C" {
+    /// The archive's version, to be compared with [`ABI`].
+    pub safe fn cementoad_abi() -> u32;
+
+    /// A clock, or refusal 1, 3, 15, 16 or 17.
+    pub safe fn cementoad_create(word: u8, backstop: i64, now: i64) -> Created;
+
+    /// The clock's value at now, or refusal 1, 2, 12 or 255.
+    pub safe fn cementoad_read(clock: Clock, now: i64) -> Reading;
+
+    /// The clock as the request leaves it, or unaltered with refusal 1 to 14 or 255.
+    pub safe fn cementoad_update(clock: Clock, request: Request, now: i64) -> Updated;
+
+    /// What the clock tells of itself at now, or refusal 1, 2 or 255.
+    pub safe fn cementoad_get_details(clock: Clock, now: i64) -> Detailed;
+
+    /// Whether it is a clock and started.
+    pub safe fn cementoad_is_started(clock: Clock) -> bool;
+
+    /// The request of a slip that is all of the bytes, or refusal 3, 6, 18, 19 or 20.
+    ///
+    /// # Safety
+    /// `bytes` points to `length` bytes that can be read, and is not null, also where `length` is 0.
+    pub unsafe fn cementoad_read_slip(bytes: *const u8, length: usize) -> Received;
+
+    /// Writes the request as a slip to the front of the buffer, or answers refusal 3, 5, 6 or 21 and writes nothing.
+    ///
+    /// # Safety
+    /// `buffer` points to `size` bytes that are initialised and can be written, and is not null, also where `size` is
+    /// 0.
+    pub unsafe fn cementoad_write_slip(request: Request, buffer: *mut u8, size: usize) -> Written;
+
+    /// How many bytes a slip of this word has, by its flags alone.
+    pub safe fn cementoad_slip_length(word: u64) -> usize;
+}

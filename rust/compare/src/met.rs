@@ -1,0 +1,220 @@
+//! What the calls met, and how often. What was not met a thousand times was not compared.
+
+use std::collections::BTreeMap;
+
+use cementoad_sys::*;
+use second::{new_line, slip_length};
+
+use crate::call::Call;
+use crate::convert::{value, wide_clock, wide_request};
+use crate::is_clock::{PARTS, failing};
+
+/// How often each is to be met.
+pub const LEAST: u64 = 1000;
+
+/// The kinds of calls, each with its refusals. Clocks made up by hand stand last.
+const KINDS: [(&str, &[u8]); 9] = [
+    ("create", &[1, 3, 15, 16, 17]),
+    ("read", &[1, 2, 12, 255]),
+    ("details", &[1, 2, 255]),
+    ("update", &[1, 2, 3, 4, 5, 6, 7, 8, 9, 10, 11, 12, 13, 14, 255]),
+    ("started", &[]),
+    ("read slip", &[3, 6, 18, 19, 20]),
+    ("write slip", &[3, 5, 6, 21]),
+    ("slip length", &[]),
+    ("made up", &[]),
+];
+const MADE_UP: usize = 8;
+
+/// What was met: by kind and refusal; by kind, rule and what the rule compares, one below, equal and one above; and by
+/// kind and what else there is.
+pub struct Met {
+    refusals: [[u64; 256]; KINDS.len()],
+    comparisons: BTreeMap<(usize, u8, &'static str), [u64; 3]>,
+    rows: BTreeMap<(usize, &'static str), u64>,
+    /// Of the call that is looked at.
+    kind: usize,
+    refusal: u8,
+}
+
+impl Met {
+    pub fn new() -> Self {
+        let (comparisons, rows) = (BTreeMap::new(), BTreeMap::new());
+        Met { refusals: [[0; 256]; KINDS.len()], comparisons, rows, kind: 0, refusal: NO_REFUSAL }
+    }
+
+    /// All calls.
+    pub fn calls(&self) -> u64 {
+        self.refusals[..MADE_UP].iter().flatten().sum()
+    }
+
+    /// Everything that is to be met, with how often it was.
+    pub fn all(&self) -> impl Iterator<Item = (String, u64)> {
+        let refusals = KINDS.iter().zip(&self.refusals).flat_map(|(&(name, refusals), counts)| {
+            let count = move |refusal: &u8| (format!("{name} {refusal}"), counts[usize::from(*refusal)]);
+            [0].iter().chain(refusals).map(count)
+        });
+        let comparisons = self.comparisons.iter().flat_map(|(&(kind, rule, what), counts)| {
+            let sides = ["one below", "equal", "one above"].into_iter().zip(counts);
+            sides.map(move |(side, &count)| (format!("{} {rule}, {what}, {side}", KINDS[kind].0), count))
+        });
+        let rows = self.rows.iter().map(|(&(kind, what), &count)| (format!("{}, {what}", KINDS[kind].0), count));
+        refusals.chain(comparisons).chain(rows)
+    }
+
+    /// A call on this clock that both sides answered alike.
+    pub fn count(&mut self, call: &Call, clock: &Clock, refusal: u8) {
+        self.refusal = refusal;
+        self.kind = match call {
+            Call::Create(..) => 0,
+            Call::Read(_) => 1,
+            Call::Details(_) => 2,
+            Call::Update(..) => 3,
+            Call::Started => 4,
+            Call::ReadSlip(_) => 5,
+            Call::WriteSlip(..) => 6,
+            Call::SlipLength(_) => 7,
+            Call::Take(_) => MADE_UP,
+        };
+        self.refusals[self.kind][usize::from(refusal)] += 1;
+        match *call {
+            _ if refusal == NOT_A_CLOCK => {}
+            Call::Create(word, backstop, now) => self.creation(word, backstop, now),
+            Call::Read(now) => self.reading(clock, now),
+            Call::Details(now) => self.now(clock, now),
+            Call::Update(request, now) => {
+                self.now(clock, now);
+                self.arguments(&request);
+                self.line(clock, &request, now);
+            }
+            Call::WriteSlip(request, ref buffer) => {
+                self.arguments(&request);
+                self.compare(21, "size and length", buffer.len() as i64, slip_length(request.word) as i64);
+            }
+            Call::ReadSlip(ref bytes) => self.slip(bytes),
+            Call::Take(clock) => self.made_up(&clock),
+            Call::Started | Call::SlipLength(_) => {}
+        }
+    }
+
+    /// Whether no check before this one applied: they go in the order of their numbers.
+    fn reaches(&self, rule: u8) -> bool {
+        self.refusal == NO_REFUSAL || rule <= self.refusal
+    }
+
+    fn compare(&mut self, rule: u8, what: &'static str, left: impl Into<i128>, right: impl Into<i128>) {
+        if self.reaches(rule) {
+            let counts = self.comparisons.entry((self.kind, rule, what)).or_default();
+            let apart = left.into() - right.into();
+            if apart.abs() <= 1 {
+                counts[(apart + 1) as usize] += 1;
+            }
+        }
+    }
+
+    /// A time or value with both ends of the range.
+    fn range(&mut self, rule: u8, what: [&'static str; 2], time: impl Into<i128> + Copy) {
+        self.compare(rule, what[0], time, 0);
+        self.compare(rule, what[1], time, END);
+    }
+
+    fn row(&mut self, what: &'static str, is_met: bool) {
+        *self.rows.entry((self.kind, what)).or_default() += u64::from(is_met);
+    }
+
+    fn creation(&mut self, word: u8, backstop: i64, now: i64) {
+        self.range(1, ["now and 0", "now and END"], now);
+        self.range(16, ["backstop and 0", "backstop and END"], backstop);
+        if word & AUTO_START != 0 {
+            self.compare(17, "backstop and now", backstop, now);
+        }
+    }
+
+    fn now(&mut self, clock: &Clock, now: i64) {
+        self.range(1, ["now and 0", "now and END"], now);
+        self.compare(2, "now and latest", now, clock.latest);
+    }
+
+    fn reading(&mut self, clock: &Clock, now: i64) {
+        self.now(clock, now);
+        if clock.started == 1 && self.reaches(12) {
+            self.compare(12, "value and END", value(&clock.line, now), END);
+            self.row("before the reference", now < clock.line.reference);
+        }
+    }
+
+    fn arguments(&mut self, request: &Request) {
+        if request.word & SYNTHETIC != 0 {
+            self.range(5, ["synthetic and 0", "synthetic and END"], request.synthetic);
+        }
+        if request.word & REFERENCE != 0 {
+            self.range(5, ["reference and 0", "reference and END"], request.reference);
+        }
+        if request.word & RATE != 0 {
+            self.compare(6, "rate and the least", request.rate, -MAX_RATE);
+            self.compare(6, "rate and the widest", request.rate, MAX_RATE);
+        }
+    }
+
+    /// Rules 12 to 14, and the rows of the effect table.
+    fn line(&mut self, clock: &Clock, request: &Request, now: i64) {
+        if !self.reaches(12) {
+            return;
+        }
+        let new = new_line(&wide_clock(clock), &wide_request(request), now.into());
+        if let Some(line) = new {
+            let new_value = second::value(&line, now.into());
+            self.range(12, ["S0 and 0", "S0 and END"], line.synthetic);
+            self.compare(12, "value and END", new_value, END);
+            self.compare(13, "value and backstop", new_value, clock.backstop);
+            if clock.word & MONOTONIC != 0 && clock.started == 1 {
+                self.compare(14, "new and old value", new_value, value(&clock.line, now));
+            }
+            self.row("before the new reference", i128::from(now) < line.reference);
+        }
+        let taken = self.refusal == NO_REFUSAL;
+        let flags = request.word & (SYNTHETIC | REFERENCE | RATE);
+        self.row("synthetic", taken && flags == SYNTHETIC);
+        self.row("synthetic at P", taken && flags == SYNTHETIC | REFERENCE);
+        self.row("rate only", taken && flags == RATE);
+        self.row("rate only at P", taken && flags == RATE | REFERENCE);
+        self.row("synthetic and rate", taken && flags == SYNTHETIC | RATE);
+        self.row("synthetic and rate at P", taken && flags == SYNTHETIC | RATE | REFERENCE);
+        self.row("neither", taken && flags == 0);
+        self.row("a start", taken && clock.started == 0);
+        self.row("a generation of 0", taken && new.is_some() && clock.generation == u32::MAX);
+    }
+
+    /// A slip with a header of version 2: its bytes beside its length, its rate field beside the widest.
+    fn slip(&mut self, bytes: &[u8]) {
+        let bits =
+            |bits: std::ops::Range<usize>| bits.fold(0, |n, at| n << 1 | i64::from(bytes[at / 8] >> (7 - at % 8) & 1));
+        if bytes.len() < 2 || self.refusal == 3 {
+            return;
+        }
+        let word = (bits(0..16) as u64) << 48;
+        self.compare(18, "bytes and length", bytes.len() as i64, slip_length(word) as i64);
+        if self.refusal != 18 && word & RATE != 0 {
+            let start = 16 + 61 * (usize::from(word & SYNTHETIC != 0) + usize::from(word & REFERENCE != 0));
+            self.compare(6, "rate field and 2000", bits(start..start + 11), 2000);
+        }
+    }
+
+    /// The edges of the boundary's test. A part of it is met where nothing else fails.
+    fn made_up(&mut self, clock: &Clock) {
+        let failing = failing(clock);
+        self.row("a clock", failing.is_empty());
+        for (part, (name, _)) in PARTS.iter().enumerate() {
+            self.row(name, failing == [part]);
+        }
+        self.range(0, ["latest and 0", "latest and END"], clock.latest);
+        self.range(0, ["backstop and 0", "backstop and END"], clock.backstop);
+        if clock.started == 1 {
+            self.range(0, ["reference and 0", "reference and END"], clock.line.reference);
+            self.range(0, ["synthetic and 0", "synthetic and END"], clock.line.synthetic);
+            self.compare(0, "rate and the least", clock.line.rate, -MAX_RATE);
+            self.compare(0, "rate and the widest", clock.line.rate, MAX_RATE);
+            self.compare(0, "value and backstop", value(&clock.line, clock.latest), clock.backstop);
+        }
+    }
+}
