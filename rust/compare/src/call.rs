@@ -2,8 +2,8 @@
 
 use cementoad_sys::{Clock, Created, Detailed, NO_REFUSAL, Reading, Received, Request, Updated, Written};
 
-/// A call with its arguments: word, backstop and now of a creation, else what the boundary takes beside the clock, which
-/// is as the call before left it. `Take` is no call: the list goes on with a clock made up by hand, which may be none.
+/// A call with its arguments: word, backstop and now of a creation, else what the boundary takes beside the clock. That
+/// is as the call before left it. `Take` is no call: the list goes on with a clock made up by hand, or with none.
 #[derive(Clone, Debug)]
 pub enum Call {
     Take(Clock),

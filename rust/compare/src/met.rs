@@ -1,6 +1,7 @@
 //! What the calls met, and how often. What was not met a thousand times was not compared.
 
 use std::collections::BTreeMap;
+use std::ops::Range;
 
 use cementoad_sys::*;
 use second::{new_line, slip_length};
@@ -187,16 +188,15 @@ impl Met {
 
     /// A slip with a header of version 2: its bytes beside its length, its rate field beside the widest.
     fn slip(&mut self, bytes: &[u8]) {
-        let bits =
-            |bits: std::ops::Range<usize>| bits.fold(0, |n, at| n << 1 | i64::from(bytes[at / 8] >> (7 - at % 8) & 1));
+        let number = |at: Range<usize>| at.fold(0, |n, at| n << 1 | i64::from(bytes[at / 8] >> (7 - at % 8) & 1));
         if bytes.len() < 2 || self.refusal == 3 {
             return;
         }
-        let word = (bits(0..16) as u64) << 48;
+        let word = (number(0..16) as u64) << 48;
         self.compare(18, "bytes and length", bytes.len() as i64, slip_length(word) as i64);
         if self.refusal != 18 && word & RATE != 0 {
             let start = 16 + 61 * (usize::from(word & SYNTHETIC != 0) + usize::from(word & REFERENCE != 0));
-            self.compare(6, "rate field and 2000", bits(start..start + 11), 2000);
+            self.compare(6, "rate field and 2000", number(start..start + 11), 2000);
         }
     }
 
