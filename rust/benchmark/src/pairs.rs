@@ -26,17 +26,8 @@ impl From<ffi::Clock> for Clock {
 
 impl From<ffi::Details> for Details {
     fn from(details: ffi::Details) -> Details {
-        Details {
-            clock: Clock {
-                word: details.word,
-                backstop: details.backstop.into(),
-                started: details.started,
-                line: details.line.into(),
-                error: details.error.into(),
-                generation: details.generation.into(),
-                latest: details.latest.into(),
-            },
-            now: details.now.into(),
-        }
+        let ffi::Details { started, line, error, generation, latest, word, backstop, now } = details;
+        let clock = ffi::Clock { line, backstop, latest, error, generation, word, started: started.into() };
+        Details { clock: clock.into(), now: now.into() }
     }
 }

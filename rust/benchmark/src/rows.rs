@@ -158,7 +158,7 @@ fn slip_reading(name: &str, inputs: Vec<Slip>) -> Row {
     row(
         name,
         inputs.into_iter().map(|slip| (slip, slip)),
-        |slip| read_slip(slip.bytes()),
+        |slip| ffi::read_slip(slip.bytes()),
         |slip| rival::read_slip(slip.bytes()),
         |received| (received.refusal, received.request),
     )
@@ -169,7 +169,7 @@ fn slip_reading(name: &str, inputs: Vec<Slip>) -> Row {
 fn slip_writing(name: &str, inputs: Vec<Writing>) -> Row {
     for (request, size) in &inputs {
         let [mut left, mut right] = [[0xA5; LONGEST_SLIP]; 2];
-        write_slip(request, &mut left[..*size]);
+        ffi::write_slip(*request, &mut left[..*size]);
         rival::write_slip(request, &mut right[..*size]);
         assert_eq!(left, right, "{name}");
     }
@@ -178,20 +178,10 @@ fn slip_writing(name: &str, inputs: Vec<Writing>) -> Row {
     row(
         name,
         inputs.into_iter().map(|input| (input, input)),
-        move |(request, size)| write_slip(request, &mut black_box(&mut library_buffer)[..*size]),
+        move |(request, size)| ffi::write_slip(*request, &mut black_box(&mut library_buffer)[..*size]),
         move |(request, size)| rival::write_slip(request, &mut black_box(&mut plain_buffer)[..*size]),
         |written| (written.refusal, written.length),
     )
-}
-
-fn read_slip(bytes: &[u8]) -> ffi::Received {
-    // SAFETY: pointer and length are those of one slice.
-    unsafe { ffi::cementoad_read_slip(bytes.as_ptr(), bytes.len()) }
-}
-
-fn write_slip(request: &ffi::Request, buffer: &mut [u8]) -> ffi::Written {
-    // SAFETY: pointer and size are those of one slice that is lent for writing.
-    unsafe { ffi::cementoad_write_slip(*request, buffer.as_mut_ptr(), buffer.len()) }
 }
 
 #[cfg(test)]

@@ -2,7 +2,7 @@
 //! puts Rust's own idioms around it.
 //!
 //! Call [`check_archive`] before anything else. Each function takes any numbers and ends; only the pointers of the two
-//! slip functions ask for care. Bytes between the fields of a struct may hold anything.
+//! slip functions ask for care, which [`read_slip`] and [`write_slip`] take. Bytes between the fields of a struct may hold anything.
 #![deny(missing_docs)]
 
 mod abi;
@@ -235,4 +235,18 @@ unsafe extern "C" {
 
     /// How many bytes a slip of this word has, by its flags alone.
     pub safe fn cementoad_slip_length(word: u64) -> usize;
+}
+
+/// As [`cementoad_read_slip`], of lent bytes.
+#[inline]
+pub fn read_slip(bytes: &[u8]) -> Received {
+    // SAFETY: pointer and length are those of one slice, whose pointer is never null.
+    unsafe { cementoad_read_slip(bytes.as_ptr(), bytes.len()) }
+}
+
+/// As [`cementoad_write_slip`], to a lent buffer.
+#[inline]
+pub fn write_slip(request: Request, buffer: &mut [u8]) -> Written {
+    // SAFETY: pointer and size are those of one slice that is lent for writing, whose pointer is never null.
+    unsafe { cementoad_write_slip(request, buffer.as_mut_ptr(), buffer.len()) }
 }

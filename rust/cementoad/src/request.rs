@@ -120,8 +120,7 @@ impl Request {
     /// ```
     pub fn from_slip(bytes: &[u8]) -> Result<Request, Refusal> {
         check_archive();
-        // SAFETY: pointer and length are those of one slice, whose pointer is never null.
-        let received = unsafe { ffi::cementoad_read_slip(bytes.as_ptr(), bytes.len()) };
+        let received = ffi::read_slip(bytes);
         check(received.refusal)?;
         Ok(received.request.into())
     }
@@ -156,8 +155,7 @@ impl Request {
     /// ```
     pub fn write_slip(&self, buffer: &mut [u8]) -> Result<usize, Refusal> {
         check_archive();
-        // SAFETY: pointer and size are those of one slice that is lent for writing, whose pointer is never null.
-        let written = unsafe { ffi::cementoad_write_slip(self.raw, buffer.as_mut_ptr(), buffer.len()) };
+        let written = ffi::write_slip(self.raw, buffer);
         check(written.refusal)?;
         Ok(written.length)
     }

@@ -1,6 +1,6 @@
 //! Lists written from 01: the worked cases, each refusal just inside and just outside, the orders of checks that can be
-//! seen, effects that are easily got wrong, and slips. Beside each call stands its refusal's number, 0 where it is
-//! accepted, and beside some readings their value.
+//! seen, effects that are easily got wrong, and slips. Each call that is refused has its number beside it, and some that
+//! are accepted are told by their whole answer.
 
 use cementoad_sys::*;
 

@@ -19,8 +19,7 @@ pub fn answer(call: &Call, clock: Clock) -> Answer {
 }
 
 pub fn read_slip(bytes: &[u8]) -> Answer {
-    // SAFETY: pointer and length are those of one slice.
-    Answer::Received(unsafe { sys::cementoad_read_slip(bytes.as_ptr(), bytes.len()) })
+    Answer::Received(sys::read_slip(bytes))
 }
 
 /// How many bytes stand before and behind the lent buffer, which nothing may touch.
@@ -31,8 +30,7 @@ const FILLING: u8 = 0xC3;
 pub fn write_slip(request: Request, buffer: &[u8]) -> Answer {
     let mut whole = [&[FILLING; MARGIN], buffer, &[FILLING; MARGIN]].concat();
     let lent = MARGIN..MARGIN + buffer.len();
-    // SAFETY: pointer and size are those of one slice that is lent for writing.
-    let written = unsafe { sys::cementoad_write_slip(request, whole[lent.clone()].as_mut_ptr(), lent.len()) };
+    let written = sys::write_slip(request, &mut whole[lent.clone()]);
     let untouched = |(at, &byte)| lent.contains(&at) || byte == FILLING;
     assert!(whole.iter().enumerate().all(untouched), "the library wrote outside of the lent buffer: {request:?}");
     Answer::Written(written, whole[lent].to_vec())

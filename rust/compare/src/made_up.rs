@@ -1,6 +1,6 @@
 //! Clocks made up by hand: sound ones, and ones at an edge of the boundary's test.
 
-use cementoad_sys::{AUTO_START, CONTINUOUS, Clock, END, Line};
+use cementoad_sys::{AUTO_START, CONTINUOUS, Clock, END, Line, UNKNOWN_ERROR};
 
 use crate::convert::value;
 use crate::numbers::{Rng, WORDS, clamp};
@@ -18,7 +18,7 @@ pub fn clock(rng: &mut Rng) -> Clock {
 fn resting(rng: &mut Rng) -> Clock {
     let word = rng.pick(&WORDS) & !AUTO_START;
     let (backstop, latest) = (rng.inside(), rng.inside());
-    Clock { word, backstop, latest, error: u64::MAX, generation: 1, ..Clock::default() }
+    Clock { word, backstop, latest, error: UNKNOWN_ERROR, generation: 1, ..Clock::default() }
 }
 
 /// A started clock. Its line begins before the latest time, at it or behind it.

@@ -9,7 +9,8 @@ use crate::numbers::Rng;
 use crate::run::Run;
 
 /// The most calls behind the first: on a clock, and on what is none.
-const LONGEST: [u64; 2] = [48, 8];
+const LONGEST: u64 = 48;
+const LONGEST_ON_NONE: u64 = 8;
 
 /// Compares until so many calls were made, or until a list shows a difference; then it tells that list, made short.
 pub fn search(seed: u64, calls: u64, met: &mut Met) -> Result<(), String> {
@@ -24,7 +25,7 @@ pub fn search(seed: u64, calls: u64, met: &mut Met) -> Result<(), String> {
     Ok(())
 }
 
-/// Runs the fixed lists, whose refusals are known from the paper, or from the boundary's test.
+/// Runs the fixed lists, whose refusals are known from the paper.
 fn fixed(met: &mut Met) -> Result<(), String> {
     for (name, steps) in fixed_lists() {
         let mut run = Run::new(met);
@@ -47,7 +48,7 @@ fn make_list(seed: u64, number: u64, met: &mut Met) -> Option<Vec<Call>> {
     let mut length = 1;
     while run.step(&list[list.len() - 1]).is_ok() {
         if list.len() == 1 {
-            length += rng.below(LONGEST[usize::from(!is_clock(&run.clock))]);
+            length += rng.below(if is_clock(&run.clock) { LONGEST } else { LONGEST_ON_NONE });
         }
         if list.len() as u64 > length {
             return None;

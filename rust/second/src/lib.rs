@@ -9,9 +9,6 @@ mod clock;
 mod ideal;
 mod slip;
 
-pub use clock::{
-    AUTO_START, CONTINUOUS, Clock, Details, END, ERROR, Line, MAX_RATE, MILLION, MONOTONIC, RATE, REFERENCE, Request,
-    SYNTHETIC, VERSION, create, details, new_line, read, update, value,
-};
+pub use clock::{Clock, Details, Line, MILLION, Request, create, details, new_line, read, update, value};
 pub use ideal::{Ideal, ideal_after, ideal_at_creation};
-pub use slip::{LONGEST_SLIP, read_slip, slip_length, write_slip};
+pub use slip::{read_slip, slip_length, write_slip};

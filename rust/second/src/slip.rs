@@ -2,8 +2,6 @@
 
 use crate::clock::{ERROR, MAX_RATE, RATE, REFERENCE, Request, SYNTHETIC, bad_rate, bad_time, bad_word, first};
 
-/// The bytes of a slip with every field: 213 bits.
-pub const LONGEST_SLIP: usize = 27;
 /// The bits of the header, the top of the update word.
 const HEADER: usize = 16;
 /// The fields in the order of the slip, each with its flag and its bits.
