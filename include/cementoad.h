@@ -66,17 +66,17 @@ enum cementoad_refusal {
     CEMENTOAD_NOW_OUTSIDE = 1,
     /* Now is before the latest accepted update, or creation. */
     CEMENTOAD_NOW_EARLY = 2,
-    /* A word has another version or an unknown bit. */
+    /* A version is not known, or a bit is set that must be zero. */
     CEMENTOAD_WORD_WRONG = 3,
     /* Nothing is flagged. */
     CEMENTOAD_NOTHING_FLAGGED = 4,
-    /* A flagged synthetic or reference is outside 0..END. */
+    /* A time or a value is outside its range. */
     CEMENTOAD_VALUE_OUTSIDE = 5,
     /* A flagged rate is outside -1000..1000. */
     CEMENTOAD_RATE_OUTSIDE = 6,
     /* Reference is flagged, but neither synthetic nor rate. */
     CEMENTOAD_REFERENCE_ALONE = 7,
-    /* The clock is not started and synthetic is not flagged. */
+    /* The clock isn't started, for what only a started one takes. */
     CEMENTOAD_NOT_STARTED = 8,
     /* The clock is continuous and reference is flagged. */
     CEMENTOAD_CONTINUOUS_REFERENCE = 9,
@@ -96,13 +96,13 @@ enum cementoad_refusal {
     CEMENTOAD_BACKSTOP_OUTSIDE = 16,
     /* Creation: auto start with the backstop above now. */
     CEMENTOAD_BACKSTOP_AHEAD = 17,
-    /* A slip has fewer than 2 bytes, or fewer than its header calls for. */
-    CEMENTOAD_SLIP_SHORT = 18,
+    /* There are fewer bytes than what is read calls for. */
+    CEMENTOAD_TOO_SHORT = 18,
     /* A padding bit of a slip is set. */
     CEMENTOAD_PADDING_SET = 19,
-    /* Bytes are left over behind a slip. */
+    /* Bytes are left over after what is read. */
     CEMENTOAD_BYTES_LEFT_OVER = 20,
-    /* The buffer is shorter than the slip. */
+    /* The buffer is shorter than what is written. */
     CEMENTOAD_BUFFER_SHORT = 21,
     /* Not of the paper, and checked before all others: what is handed in for a clock fails the test that is told at
      * struct cementoad_clock. */
@@ -117,8 +117,7 @@ static inline bool cementoad_is_invalid_args(uint8_t refusal)
 
 /* ---- structs. Bytes between the fields may hold anything: compare and store structs field by field. */
 
-/* A line through the point (reference, synthetic) that gains 1,000,000 + rate millionths of a nanosecond in each
- * nanosecond. */
+/* A line through (reference, synthetic) that gains 1,000,000 + rate millionths of a nanosecond in each nanosecond. */
 struct cementoad_line {
     /* The reference time at which the line begins, in nanoseconds. */
     int64_t reference;
@@ -212,7 +211,7 @@ struct cementoad_detailed {
     struct cementoad_details details;
 };
 
-/* A request that was read from a slip, and its refusal. A refused one is word 0 and zero arguments. */
+/* A request, read from a slip, beside its refusal, which leaves it zeros. */
 struct cementoad_received {
     struct cementoad_request request;
     uint8_t refusal;

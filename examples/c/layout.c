@@ -1,4 +1,4 @@
-/* Prints what the header declares: each struct and field with its place and size, each constant, and each refusal with
+/* Prints what the header declares: each struct and field with its offset and size, each constant, and each refusal with
  * its public name. The example `layout` of rust/cementoad prints the same lines from Rust's declarations. */
 #include <inttypes.h>
 #include <stdio.h>
@@ -101,7 +101,7 @@ static void refusals(void)
     REFUSAL(CONTINUOUS_NOT_MONOTONIC);
     REFUSAL(BACKSTOP_OUTSIDE);
     REFUSAL(BACKSTOP_AHEAD);
-    REFUSAL(SLIP_SHORT);
+    REFUSAL(TOO_SHORT);
     REFUSAL(PADDING_SET);
     REFUSAL(BYTES_LEFT_OVER);
     REFUSAL(BUFFER_SHORT);

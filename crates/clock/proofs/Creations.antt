@@ -10,7 +10,7 @@ use lib.Dec.{T, eqb}
 use Rattle.clock.specs.Numbers.{timeOutside}
 use Rattle.clock.specs.Clock.{autoStart}
 use Rattle.clock.specs.Creation.{othersZero, creationTable, creationRefusal}
-use Rattle.clock.proofs.Tables.{passed}
+use Rattle.tables.proofs.Tables.{passed}
 
 module _ (word : ℕ) (backstop now : ℤ) (e : creationRefusal word backstop now ≡ 0) where
   pub created-row1 : T (not (timeOutside now))

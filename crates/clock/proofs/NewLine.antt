@@ -1,181 +1,191 @@
--- The new line of an update as the code finds it: what rules 1 to 11 let pass is judged as rules 12 to 14 say, and drawn as the effect table says.
+-- The new line of an update as the code finds it: what rules 1 to 11 let pass is drawn as the effect table says, and judged as
+-- rules 12 to 14 say.
 use mathlib.Core.Bool.{Bool, true, false, not, cond, _&&_, _||_}
-use mathlib.Core.List.{List, [], _∷_, _++_}
-use mathlib.Core.Path.{_≡_, refl, sym, ap, _∙_, subst}
-use Prim.Native.Nat.{ℕ}
+use mathlib.Core.List.{List, [], _∷_}
+use mathlib.Core.Path.{_≡_, refl, sym, ap, _∙_, subst⁻¹}
 use lib.Dec.{T}
-use lib.IntN.{ℤ}
+use lib.IntN.{ℤ, pos}
 use lib.Signed.{ltZ}
-use borrow.Author.Tests.{ne-eqb}
+use Rattle.tables.specs.Tables.{Row, _when_, first}
+use Rattle.tables.proofs.Tests.{neither-left, neither-right, fails-second, by-cases}
+use Rattle.tables.proofs.Tables.{passed, Alike, first-alike}
+use Rattle.line.specs.Numbers.{outside}
+use Rattle.line.specs.Line.{line, valueAt, turned, Computable}
+use Rattle.line.specs.Value.{placed, isUnder, isOver, isLess, held, isBeyond, lineOr}
+use Rattle.line.specs.declared.Line.{Line}
+use Rattle.line.specs.declared.Redrawn.{Redrawn}
+use Rattle.line.specs.declared.Redrawn.the-variants.{Drawn}
+use Rattle.line.proofs.Placed.{drawn-in, under-law, over-law, less-law, beyond-law, line-or-keeps}
+use Rattle.line.proofs.Linear.{≤ℤ-trans}
+use Rattle.line.proofs.Laws.{turned-reference, turned-rate}
 use Rattle.clock.specs.Numbers.{END, timeOutside}
-use Rattle.clock.specs.Refusals.{Row, _when_, first}
-use Rattle.clock.specs.Line.{line, valueAt}
-use Rattle.clock.specs.Clock.{monotonic, isRunning, oldLine, InRange, Permitted, Drawable, Valid}
-use Rattle.clock.specs.Update.{hasSynthetic, hasRate, replaces, valuesOutside, rateTooWide, place, effect, newLine, updateTable, updateRefusal, updated, updating}
-use Rattle.clock.specs.Parts.{rowsBefore, placed, isWithin, isLess, numberOf, syntheticOf, drawnLine, lineTable}
-use Rattle.clock.specs.declared.Line.{Line}
+use Rattle.clock.specs.Clock.{monotonic, isRunning, oldLine, timeTable, InRange, Permitted, Drawable, Valid}
+use Rattle.clock.specs.Update.{hasSynthetic, hasRate, replaces, valuesOutside, rateTooWide, point, effect, newLine, requestTable, newLineTable, updateTable}
+use Rattle.clock.specs.Taken.{isClock, guarded}
+use Rattle.clock.specs.Parts.{Judged}
 use Rattle.clock.specs.declared.Clock.{Clock}
 use Rattle.clock.specs.declared.Request.{Request}
-use Rattle.clock.specs.declared.value.Value.{Value}
-use Rattle.clock.specs.declared.value.Value.the-variants.{Within}
-use Rattle.clock.proofs.Tests.{neither-left}
-use Rattle.clock.proofs.Tables.{passed, rowsFrom, first-passed, first-refused}
-use Rattle.clock.proofs.Ranges.{in-range}
-use Rattle.clock.proofs.Placed.{above-law, outside-law, under-law, less-law, placed-in, number-in-range}
-use Rattle.clock.specs.Taken.{isClock, NOT_A_CLOCK}
-use Rattle.clock.proofs.Taken.{guarded-first, guarded-none, taken-valid}
-use Rattle.clock.proofs.Requests.{synthetic-in-range, place-in-range, rate-permitted, old-drawable}
+use Rattle.clock.proofs.Ranges.{not-less, in-range, end-held, range-held, rises, computable}
+use Rattle.clock.proofs.Requests.{old-drawable}
+use Rattle.clock.proofs.Guarded.{guarded-passed, rest-decides}
 
 -- ---- what rules 1 to 11 leave known
 
-module _ (c : Clock) (u : Request) (now : ℤ) (e : first (rowsBefore 12 (updateTable c u now)) ≡ 0) where
+module _ (c : Clock) (u : Request) (now : ℤ) (e : first (guarded c (requestTable c u now)) ≡ 0) where
+  pub request-taken : T (isClock c)
+  request-taken = guarded-passed c (requestTable c u now) e .0
+
+  request-passed : first (requestTable c u now) ≡ 0
+  request-passed = guarded-passed c (requestTable c u now) e .1
+
   pub now-passed : InRange now
-  unfolding updateTable
-  now-passed = in-range now (passed 1 (rowsBefore 12 (updateTable c u now)) tt e)
+  unfolding requestTable timeTable
+  now-passed = in-range now (passed 1 (requestTable c u now) tt request-passed)
 
   pub values-passed : T (not (valuesOutside u))
-  unfolding updateTable
-  values-passed = passed 5 (rowsBefore 12 (updateTable c u now)) tt e
+  unfolding requestTable timeTable
+  values-passed = passed 5 (requestTable c u now) tt request-passed
 
   pub rate-passed : T (not (rateTooWide u))
-  unfolding updateTable
-  rate-passed = passed 6 (rowsBefore 12 (updateTable c u now)) tt e
+  unfolding requestTable timeTable
+  rate-passed = passed 6 (requestTable c u now) tt request-passed
 
--- ---- rules 12 to 14, of the line through (P, z) with the rate a
-
--- as the rules have them
-abbrev judged : Clock → Bool → Line → ℤ → List Row
-judged c replaced new now =
-    (12 when (replaced && (timeOutside (new .synthetic) || ltZ END (valueAt new now)))
-    ∷ 13 when (replaced && ltZ (valueAt new now) (c .backstop))
-    ∷ 14 when (replaced && monotonic (c .word) && isRunning c && ltZ (valueAt new now) (valueAt (oldLine c) now))
-    ∷ [])
-
--- the old value is asked only of a new one that is in the range and not below the backstop
-asked-last : (above under strict less less' : Bool) → (above ≡ false → under ≡ false → less ≡ less') →
-    first (12 when above ∷ 13 when under ∷ 14 when (strict && less) ∷ []) ≡ first (12 when above ∷ 13 when under ∷ 14 when (strict && less') ∷ [])
-asked-last true under strict less less' h = refl
-asked-last false true strict less less' h = refl
-asked-last false false strict less less' h = rw (h refl refl)
-
-module _ (c : Clock) (v : Valid c) (P a now : ℤ) where
-  judges : (z : ℤ) → first (lineTable c true (placed z) (line P (numberOf (placed z)) a) now) ≡ first (judged c true (line P z a) now)
-  unfolding lineTable
-  judges z = go (timeOutside z) refl
-    where
-      go : (b : Bool) → timeOutside z ≡ b → first (lineTable c true (placed z) (line P (numberOf (placed z)) a) now) ≡ first (judged c true (line P z a) now)
-      go true e = simp (outside-law z, e)
-      go false e =
-          let i = in-range z (rw e tt) in
-          let x = valueAt (line P z a) now in
-          let w = valueAt (oldLine c) now in
-          rw (placed-in z i)
-          (simp (e, above-law x, under-law x (c .backstop) (v .backstop))
-          (asked-last (ltZ END x) (ltZ x (c .backstop)) (monotonic (c .word) && isRunning c) (isLess (placed x) (placed w)) (ltZ x w)
-          (less-law x w (c .backstop) (v .backstop))))
-
-  -- a number of the range is seen as itself
-  judges-set : (S : ℤ) → InRange S → first (lineTable c true (Within S) (line P S a) now) ≡ first (judged c true (line P S a) now)
-  judges-set S i =
-      subst (λ (x : Value). first (lineTable c true x (line P (numberOf x) a) now) ≡ first (judged c true (line P S a) now)) (placed-in S i) (judges S)
-
--- an update that keeps the line is not judged
-unreplaced : (c : Clock) (start : Value) (new : Line) (now : ℤ) → first (lineTable c false start new now) ≡ 0
-unfolding lineTable
-unreplaced c start new now = refl
+  -- then the rows of the new line decide
+  pub line-decides : first (guarded c (updateTable c u now)) ≡ first (newLineTable c u now)
+  unfolding updateTable requestTable timeTable
+  line-decides = rest-decides c (requestTable c u now) (newLineTable c u now) tt e
 
 -- ---- the effect table
 
-module _ (c : Clock) (v : Valid c) (T₀ : Line) (P S new now : ℤ) where
-  abbrev start : Bool → Value
-  start s = cond s (Within S) (placed (valueAt T₀ P))
+-- where a new line begins, and its rate
+pub record Begins (l : Line) : Type 0 where
+  pub reference : InRange (l .reference)
+  pub rate : Permitted (l .rate)
 
-  abbrev drawn : Bool → Bool → Line
-  drawn s a = cond (s || a) (line P (numberOf (start s)) (cond a new (T₀ .rate))) T₀
+pub effect-begins : (s a : Bool) (T₀ : Line) (P S new : ℤ) → Drawable T₀ → InRange P → (T a → Permitted new) → Begins (effect s a T₀ P S new)
+unfolding effect
+effect-begins true false T₀ P S new o p r = record { reference = p; rate = o .rate }
+effect-begins true true T₀ P S new o p r = record { reference = p; rate = r tt }
+effect-begins false true T₀ P S new o p r = record { reference = rw (turned-reference T₀ P new) p; rate = rw (turned-rate T₀ P new) (r tt) }
+effect-begins false false T₀ P S new o p r = record { reference = o .reference; rate = o .rate }
 
-  judges-effect : (s a : Bool) → (T s → InRange S) →
-      first (lineTable c (s || a) (start s) (drawn s a) now) ≡ first (judged c (s || a) (effect s a T₀ P S new) now)
-  unfolding effect
-  judges-effect true false i = judges-set c v P (T₀ .rate) now S (i tt)
-  judges-effect true true i = judges-set c v P new now S (i tt)
-  judges-effect false true i = judges c v P new now (valueAt T₀ P)
-  judges-effect false false i = unreplaced c (start false) T₀ now
+-- where the line stays, nothing is drawn
+pub effect-kept : (s a : Bool) (T₀ : Line) (P S new : ℤ) → T (not (s || a)) → effect s a T₀ P S new ≡ T₀
+unfolding effect
+effect-kept true a T₀ P S new n = absurd n
+effect-kept false true T₀ P S new n = absurd n
+effect-kept false false T₀ P S new n = refl
 
-  -- a line that rule 12 lets pass starts at a number of the range
-  draws-effect : (s a : Bool) → first (lineTable c (s || a) (start s) (drawn s a) now) ≡ 0 → drawn s a ≡ effect s a T₀ P S new
-  unfolding effect lineTable
-  draws-effect true false e = refl
-  draws-effect true true e = refl
-  draws-effect false false e = refl
-  draws-effect false true e =
-      let z = valueAt T₀ P in
-      let n = neither-left (not (isWithin (placed z))) _ (passed 12 (lineTable c true (placed z) (drawn false true) now) tt e) in
-      let i = in-range z (subst (λ (b : Bool). T (not b)) (outside-law z) n) in
-      ap (λ (x : Value). line P (numberOf x) new) (placed-in z i)
+-- a value in range is drawn
+pub set-drawn : (a : Bool) (T₀ : Line) (P S new : ℤ) → InRange S → Drawn (line P S (cond a new (T₀ .rate))) ≡ held (effect true a T₀ P S new)
+unfolding effect
+set-drawn true T₀ P S new i = sym (drawn-in (line P S new) (range-held i))
+set-drawn false T₀ P S new i = sym (drawn-in (line P S (T₀ .rate)) (range-held i))
 
-  drawable-effect : (s a : Bool) → Drawable T₀ → InRange P → (T s → InRange S) → (T a → Permitted new) → Drawable (drawn s a)
-  drawable-effect true false o p i r = record { reference = p; synthetic = i tt; rate = o .rate }
-  drawable-effect true true o p i r = record { reference = p; synthetic = i tt; rate = r tt }
-  drawable-effect false true o p i r = record { reference = p; synthetic = number-in-range (valueAt T₀ P); rate = r tt }
-  drawable-effect false false o p i r = o
+pub turned-drawn : (T₀ : Line) (P S new : ℤ) → held (turned T₀ P new) ≡ held (effect false true T₀ P S new)
+unfolding effect
+turned-drawn T₀ P S new = refl
 
--- ---- the whole update
+pub kept-drawn : (T₀ : Line) (P S new : ℤ) → Drawable T₀ → Drawn T₀ ≡ held (effect false false T₀ P S new)
+unfolding effect
+kept-drawn T₀ P S new o = sym (drawn-in T₀ (range-held (o .synthetic)))
 
--- what the code finds: S0 of the new line, the line, and its refusal
+-- ---- the new line
+
 module _ (c : Clock) (u : Request) (now : ℤ) where
-  abbrev pub startNow : Value
-  startNow = syntheticOf u (oldLine c) (place u now)
+  abbrev new : Line
+  new = newLine c u now
 
-  abbrev pub lineNow : Line
-  lineNow = drawnLine u (oldLine c) (place u now) (numberOf startNow)
+  pub new-begins : Valid c → InRange (point u now) → (T (hasRate u) → Permitted (u .rate)) → Begins new
+  unfolding newLine
+  new-begins v p r = effect-begins (hasSynthetic u) (hasRate u) (oldLine c) (point u now) (u .synthetic) (u .rate) (old-drawable c v) p r
 
-  abbrev pub refusalNow : ℕ
-  refusalNow = first (lineTable c (replaces u) startNow lineNow now)
+  pub new-kept : T (not (replaces u)) → new ≡ oldLine c
+  unfolding newLine
+  new-kept n = effect-kept (hasSynthetic u) (hasRate u) (oldLine c) (point u now) (u .synthetic) (u .rate) n
 
-  pub update-none : isClock c ≡ false → record { clock = c; refusal = NOT_A_CLOCK } ≡ updating c u now
-  unfolding updating updateRefusal
-  update-none e = simp (guarded-none c (updateTable c u now) e)
+  -- the line whose value is found
+  pub found-computable : Valid c → Begins new → Computable (lineOr (held new) (oldLine c))
+  found-computable v b =
+      line-or-keeps Computable (new .reference) (new .synthetic) (new .rate) (oldLine c)
+      (λ h. record { reference = b .reference .low; synthetic = h .low; rate = rises (b .rate) }) (computable (old-drawable c v))
 
-  refusal-split : T (isClock c) → updateRefusal c u now ≡ first (rowsBefore 12 (updateTable c u now) ++ rowsFrom 12 (updateTable c u now))
-  unfolding updateTable updateRefusal
-  refusal-split t = guarded-first c (updateTable c u now) t
+  pub found-new : InRange (new .synthetic) → lineOr (held new) (oldLine c) ≡ new
+  found-new i = ap (λ (r : Redrawn). lineOr r (oldLine c)) (drawn-in new (range-held i))
 
-  pub update-refused : T (isClock c) → (n : ℕ) → n ≡ first (rowsBefore 12 (updateTable c u now)) → (n ≡ 0 → ⊥) → record { clock = c; refusal = n } ≡ updating c u now
-  unfolding updating
-  update-refused t n e h =
-      let k : updateRefusal c u now ≡ n =
-      refusal-split t ∙ first-refused (rowsBefore 12 (updateTable c u now)) (rowsFrom 12 (updateTable c u now)) (λ z. h (e ∙ z)) ∙ sym e in
-      simp (k, ne-eqb n 0 h)
+  -- what rule 12 lets pass begins in the range
+  pub passed-in-range : Valid c → T (not (replaces u && (timeOutside (new .synthetic) || ltZ END (valueAt new now)))) → InRange (new .synthetic)
+  passed-in-range v n = by-cases (replaces u)
+      (λ r. in-range (new .synthetic) (neither-left (timeOutside (new .synthetic)) (ltZ END (valueAt new now)) (fails-second (replaces u) (timeOutside (new .synthetic) || ltZ END (valueAt new now)) r n)))
+      (λ k. subst⁻¹ (λ (l : Line). InRange (l .synthetic)) (new-kept k) (old-drawable c v .synthetic))
 
--- where rules 1 to 11 let it pass
-module _ (c : Clock) (u : Request) (now : ℤ) (t : T (isClock c)) (e : first (rowsBefore 12 (updateTable c u now)) ≡ 0) where
-  v : Valid c
-  v = taken-valid c t
+-- ---- rules 12 to 14
 
-  pub place-passed : InRange (place u now)
-  place-passed = place-in-range u (values-passed c u now e) now (now-passed c u now e)
+-- as the code judges them: by the line as it was drawn, and the value of the line that stands for it
+abbrev pub judgedTable : Clock → Request → ℤ → Redrawn → Line → Line → List Row
+judgedTable c u now redrawn l old =
+    let newValue = placed (valueAt l now) in
+    (12 when (replaces u && (isBeyond redrawn END || isOver newValue END))
+    ∷ 13 when (replaces u && isUnder newValue (c .backstop))
+    ∷ 14 when (replaces u && (monotonic (c .word) && isRunning c && isLess newValue (placed (valueAt old now))))
+    ∷ [])
 
-  pub line-drawable : Drawable (lineNow c u now)
-  unfolding syntheticOf drawnLine
-  line-drawable =
-      drawable-effect c v (oldLine c) (place u now) (u .synthetic) (u .rate) now (hasSynthetic u) (hasRate u)
-      (old-drawable c v) place-passed (synthetic-in-range u (values-passed c u now e)) (rate-permitted u (rate-passed c u now e))
+and-agree : (a x y : Bool) → (T a → x ≡ y) → (a && x) ≡ (a && y)
+and-agree true x y h = h tt
+and-agree false x y h = refl
 
-  line-judged : refusalNow c u now ≡ updateRefusal c u now
-  unfolding syntheticOf drawnLine newLine updateTable
-  line-judged =
-      judges-effect c v (oldLine c) (place u now) (u .synthetic) (u .rate) now (hasSynthetic u) (hasRate u) (synthetic-in-range u (values-passed c u now e))
-      ∙ sym (refusal-split c u now t ∙ first-passed (rowsBefore 12 (updateTable c u now)) (rowsFrom 12 (updateTable c u now)) tt e)
+or-agree : (a x y : Bool) → (T (not a) → x ≡ y) → (a || x) ≡ (a || y)
+or-agree true x y h = refl
+or-agree false x y h = h tt
 
-  pub line-drawn : refusalNow c u now ≡ 0 → lineNow c u now ≡ newLine c u now
-  unfolding syntheticOf drawnLine newLine
-  line-drawn z = draws-effect c v (oldLine c) (place u now) (u .synthetic) (u .rate) now (hasSynthetic u) (hasRate u) z
+module _ (c : Clock) (u : Request) (now : ℤ) (v : Valid c) where
+  abbrev drawn : Line
+  drawn = newLine c u now
 
-  -- its answer, by the refusal that the code finds
-  pub update-taken : (n : ℕ) → n ≡ refusalNow c u now → n ≡ 0 → record { clock = updated c u now; refusal = n } ≡ updating c u now
-  unfolding updating
-  update-taken n k z = let j : updateRefusal c u now ≡ 0 = sym line-judged ∙ sym k ∙ z in simp (z, j)
+  abbrev found : Line
+  found = lineOr (held drawn) (oldLine c)
 
-  pub update-judged : (n : ℕ) → n ≡ refusalNow c u now → (n ≡ 0 → ⊥) → record { clock = c; refusal = n } ≡ updating c u now
-  unfolding updating
-  update-judged n k h = let j : updateRefusal c u now ≡ n = sym line-judged ∙ sym k in simp (j, ne-eqb n 0 h)
+  abbrev value : ℤ
+  value = valueAt drawn now
+
+  same : InRange (drawn .synthetic) → valueAt found now ≡ value
+  same i = ap (λ (l : Line). valueAt l now) (found-new c u now i)
+
+  beyond-is : isBeyond (held drawn) END ≡ timeOutside (drawn .synthetic)
+  unfolding timeOutside outside
+  beyond-is = beyond-law (drawn .reference) (drawn .synthetic) (drawn .rate) END end-held
+
+  row12 : (isBeyond (held drawn) END || isOver (placed (valueAt found now)) END) ≡ (timeOutside (drawn .synthetic) || ltZ END value)
+  row12 = rw beyond-is (or-agree (timeOutside (drawn .synthetic)) (isOver (placed (valueAt found now)) END) (ltZ END value)
+      (λ n. rw (same (in-range (drawn .synthetic) n)) (over-law value END end-held)))
+
+  module _ (r : T (replaces u)) (n : T (not (replaces u && (timeOutside (drawn .synthetic) || ltZ END value)))) where
+    begun : InRange (drawn .synthetic)
+    begun = passed-in-range c u now v n
+
+    row13 : isUnder (placed (valueAt found now)) (c .backstop) ≡ ltZ value (c .backstop)
+    row13 = rw (same begun) (under-law value (c .backstop) (range-held (v .backstop)))
+
+    row14 : T (not (replaces u && ltZ value (c .backstop))) → isLess (placed (valueAt found now)) (placed (valueAt (oldLine c) now)) ≡ ltZ value (valueAt (oldLine c) now)
+    row14 m =
+        let high = not-less END value (neither-right (timeOutside (drawn .synthetic)) (ltZ END value) (fails-second (replaces u) (timeOutside (drawn .synthetic) || ltZ END value) r n)) in
+        let low = not-less value (c .backstop) (fails-second (replaces u) (ltZ value (c .backstop)) r m) in
+        rw (same begun) (less-law value (valueAt (oldLine c) now) (range-held (record { low = ≤ℤ-trans (v .backstop .low) low; high = high })))
+
+  -- the code's tests of 13 and 14 are the rules' where no earlier row applies
+  pub judged-alike : Alike (judgedTable c u now (held drawn) found (oldLine c)) (newLineTable c u now)
+  unfolding newLineTable
+  judged-alike = (
+    refl,
+    ap (λ (b : Bool). replaces u && b) row12,
+    λ n. (
+      refl,
+      and-agree (replaces u) _ _ (λ r. row13 r n),
+      λ m. (refl, and-agree (replaces u) _ _ (λ r. ap (λ (b : Bool). monotonic (c .word) && isRunning c && b) (row14 r n m)), λ k. tt),
+    ),
+  )
+
+pub judged-first : (c : Clock) (u : Request) (now : ℤ) (redrawn : Redrawn) (l old : Line) → Judged c u now redrawn l old →
+    first (judgedTable c u now redrawn l old) ≡ first (newLineTable c u now)
+judged-first c u now redrawn l old j =
+    rw (j .line, j .before, j .drawn) (first-alike (judgedTable c u now (held (newLine c u now)) _ (oldLine c)) (newLineTable c u now) (judged-alike c u now (j .clock)))

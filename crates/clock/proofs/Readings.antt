@@ -1,70 +1,61 @@
--- A reading as the code finds it: refusals 1 and 2 first, then the value as the range sees it.
-use mathlib.Core.Bool.{Bool, true, false, cond}
-use mathlib.Core.List.{List, [], _∷_, _++_}
+-- A reading as the code finds it: refusals 1 and 2 first, then the value as an i64 sees it.
+use mathlib.Core.Bool.{Bool, true, false, not, cond}
+use mathlib.Core.List.{List, [], _∷_}
 use mathlib.Core.Path.{_≡_, refl, sym, ap, _∙_}
 use Prim.Native.Nat.{ℕ}
-use lib.Dec.{T, eqb}
+use lib.Dec.{T, ltb}
 use lib.IntN.{ℤ, pos, negsuc}
 use lib.Signed.{ltZ, _≤ℤ_}
-use borrow.Author.Tests.{ne-eqb}
+use Rattle.tables.specs.Tables.{Row, _when_, first, answerTo, answer}
+use Rattle.tables.proofs.Tables.{passed}
+use Rattle.line.specs.Value.{placed, numberOf}
+use Rattle.line.proofs.Linear.{≤ℤ-trans}
+use Rattle.line.proofs.Placed.{over-law, number-in}
 use Rattle.clock.specs.Numbers.{END}
-use Rattle.clock.specs.Refusals.{Row, _when_, first}
-use Rattle.clock.specs.Clock.{InRange}
-use Rattle.clock.specs.Reading.{clockValue, readingTable, readingRefusal, reading}
-use Rattle.clock.specs.Parts.{timeTable, placed, readOf}
+use Rattle.clock.specs.Clock.{timeTable, InRange}
+use Rattle.clock.specs.Taken.{isClock, guarded}
+use Rattle.clock.specs.Reading.{clockValue, readingTable, reading}
+use Rattle.clock.specs.Parts.{readOf}
 use Rattle.clock.specs.declared.Clock.{Clock}
 use Rattle.clock.specs.declared.Reading.{Reading}
-use Rattle.clock.specs.declared.value.Value.the-variants.{Within, Above}
-use Rattle.clock.proofs.Linear.{≤ℤ-trans}
-use Rattle.clock.proofs.Tables.{passed, first-passed, first-refused}
-use Rattle.clock.proofs.Ranges.{not-less, in-range}
-use Rattle.clock.proofs.ValueLaws.{above-backstop}
-use Rattle.clock.specs.Taken.{isClock, NOT_A_CLOCK}
-use Rattle.clock.proofs.Taken.{guarded-first, guarded-none, taken-valid}
+use Rattle.clock.proofs.Ranges.{not-less, in-range, end-held, range-held}
+use Rattle.clock.proofs.Values.{above-backstop}
+use Rattle.clock.proofs.Guarded.{guarded-passed, rest-decides}
+use Rattle.clock.proofs.Taken.{taken-valid}
 
-module _ (latest now : ℤ) (e : first (timeTable latest now) ≡ 0) where
+-- what the first rows let pass is a clock, at a time in the range and not before its latest
+module _ (c : Clock) (now : ℤ) (e : first (guarded c (timeTable c now)) ≡ 0) where
+  pub time-taken : T (isClock c)
+  time-taken = guarded-passed c (timeTable c now) e .0
+
   pub time-in-range : InRange now
   unfolding timeTable
-  time-in-range = in-range now (passed 1 (timeTable latest now) tt e)
+  time-in-range = in-range now (passed 1 (timeTable c now) tt (guarded-passed c (timeTable c now) e .1))
 
-  pub not-early : latest ≤ℤ now
+  pub not-early : c .latest ≤ℤ now
   unfolding timeTable
-  not-early = not-less now latest (passed 2 (timeTable latest now) tt e)
+  not-early = not-less now (c .latest) (passed 2 (timeTable c now) tt (guarded-passed c (timeTable c now) e .1))
 
--- the answer beside a refusal
-abbrev answer : ℕ → ℤ → Reading
-answer n z = record { refusal = n; value = cond (eqb n 0) z (pos 0) }
+-- a value that is not below 0 is answered as the last row says
+abbrev lastAnswer : Bool → ℤ → Reading
+lastAnswer over z = answer (12 when over ∷ []) (record { refusal = 0; value = z }) (λ n. record { refusal = n; value = pos 0 })
 
-answered : (z : ℤ) → pos 0 ≤ℤ z → readOf (placed z) ≡ answer (first (12 when ltZ END z ∷ [])) z
-unfolding placed
-answered (negsuc n) h = absurd (h .le)
-answered (pos n) h = go (ltZ END (pos n))
+answered : (z : ℤ) → pos 0 ≤ℤ z → readOf (placed z) ≡ lastAnswer (ltZ END z) z
+answered z h = rw (over-law z END end-held) (as-told (ltZ END z) ∙ go (ltZ END z) (λ t. number-in z (range-held (record { low = h; high = not-less END z t }))))
   where
-    go : (b : Bool) → readOf (cond b Above (Within (pos n))) ≡ answer (first (12 when b ∷ [])) (pos n)
-    go true = refl
-    go false = refl
+    as-told : (b : Bool) → cond {A = Reading} b (record { refusal = 12; value = pos 0 }) (record { refusal = 0; value = numberOf (placed z) }) ≡ lastAnswer b (numberOf (placed z))
+    as-told true = refl
+    as-told false = refl
 
-module _ (c : Clock) (now : ℤ) where
-  last : List Row
-  last = 12 when ltZ END (clockValue c now) ∷ []
+    go : (b : Bool) → (T (not b) → numberOf (placed z) ≡ z) → lastAnswer b (numberOf (placed z)) ≡ lastAnswer b z
+    go true f = refl
+    go false f = rw (f tt)
 
-  refusal-split : T (isClock c) → readingRefusal c now ≡ first (timeTable (c .latest) now ++ last)
-  unfolding readingRefusal readingTable timeTable last
-  refusal-split t = guarded-first c (readingTable c now) t
-
-  pub read-given : T (isClock c) → first (timeTable (c .latest) now) ≡ 0 → readOf (placed (clockValue c now)) ≡ reading c now
-  unfolding reading timeTable last
-  read-given t e =
-      let v = taken-valid c t in
-      answered (clockValue c now) (≤ℤ-trans (v .backstop .low) (above-backstop c now v (not-early (c .latest) now e)))
-      ∙ ap (λ (n : ℕ). answer n (clockValue c now)) (sym (refusal-split t ∙ first-passed (timeTable (c .latest) now) last tt e))
-
-  pub read-refused : T (isClock c) → (n : ℕ) → n ≡ first (timeTable (c .latest) now) → (n ≡ 0 → ⊥) → record { refusal = n; value = pos 0 } ≡ reading c now
-  unfolding reading
-  read-refused t n e h =
-      let k : readingRefusal c now ≡ n = refusal-split t ∙ first-refused (timeTable (c .latest) now) last (λ z. h (e ∙ z)) ∙ sym e in
-      simp (k, ne-eqb n 0 h)
-
-  pub read-none : isClock c ≡ false → record { refusal = NOT_A_CLOCK; value = pos 0 } ≡ reading c now
-  unfolding reading readingRefusal
-  read-none e = simp (guarded-none c (readingTable c now) e)
+pub read-given : (c : Clock) (now : ℤ) → first (guarded c (timeTable c now)) ≡ 0 → readOf (placed (clockValue c now)) ≡ reading c now
+unfolding reading readingTable timeTable
+read-given c now e =
+    let v = taken-valid c (time-taken c now e) in
+    let z = clockValue c now in
+    answered z (≤ℤ-trans (v .backstop .low) (above-backstop c now v (not-early c now e)))
+    ∙ ap (λ (n : ℕ). answerTo n (record { refusal = 0; value = z }) (λ k. record { refusal = k; value = pos 0 }))
+    (sym (rest-decides c (timeTable c now) (12 when ltZ END z ∷ []) tt e))

@@ -1,12 +1,14 @@
--- The clock: what its creation word and its started byte say, its old line, and what the operations rest on.
+-- The clock: what its creation word and its started byte say, its old line, refusals 1 and 2, and what the operations rest on.
 use mathlib.Core.Bool.{Bool, cond}
+use mathlib.Core.List.{List, [], _∷_}
 use Prim.Native.Nat.{ℕ}
 use lib.IntN.{ℤ, pos, negℤ}
-use lib.Signed.{_≤ℤ_}
+use lib.Signed.{ltZ, _≤ℤ_}
 use lib.Dec.{T, eqb}
-use Rattle.clock.specs.Numbers.{END, MAX_RATE, bit}
-use Rattle.clock.specs.Line.{identity, valueAt}
-use Rattle.clock.specs.declared.Line.{Line}
+use Rattle.tables.specs.Tables.{Row, _when_}
+use Rattle.line.specs.Line.{line, valueAt}
+use Rattle.line.specs.declared.Line.{Line}
+use Rattle.clock.specs.Numbers.{END, MAX_RATE, timeOutside, bit}
 use Rattle.clock.specs.declared.Clock.{Clock}
 
 -- the creation word: monotonic 128, continuous 64, auto start 32 (01, 'Creation')
@@ -27,9 +29,22 @@ byteOf b = cond b 1 0
 abbrev pub isRunning : Clock → Bool
 isRunning c = eqb (c .started) 1
 
+-- the line that auto start gives at once (01, 'Creation')
+abbrev pub identity : Line
+identity = line (pos 0) (pos 0) (pos 0)
+
 -- T, the old line of an update; before the start the identity line, since 'old a is 0 before the start' (01, the effect table)
 unfoldable pub oldLine : Clock → Line
 oldLine c = cond (isRunning c) (c .line) identity
+
+-- refusals 1 and 2, of a call at now: outside 0..END; before the latest accepted update, or creation. `ltZ a b` is a < b
+unfoldable pub timeTable : Clock → ℤ → List Row
+timeTable c now =
+    (1 when timeOutside now
+    ∷ 2 when ltZ now (c .latest)
+    ∷ [])
+
+-- ---- what the operations rest on
 
 -- in 0..END
 pub record InRange (x : ℤ) : Type 0 where
@@ -47,7 +62,7 @@ pub record Drawable (l : Line) : Type 0 where
   pub synthetic : InRange (l .synthetic)
   pub rate : Permitted (l .rate)
 
--- what the operations rest on; it holds of everything that is taken for a clock (`ClocksValid` in demands/specs)
+-- it holds of everything that is taken for a clock (`ClocksValid` in demands/specs)
 pub record Valid (c : Clock) : Type 0 where
   pub line : Drawable (c .line)
   pub backstop : InRange (c .backstop)

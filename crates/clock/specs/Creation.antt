@@ -1,15 +1,14 @@
 -- Creation: its refusals, the clock it gives, and its whole answer.
-use mathlib.Core.Bool.{Bool, not, cond, _&&_}
+use mathlib.Core.Bool.{Bool, not, _&&_}
 use mathlib.Core.List.{List, [], _∷_}
 use mathlib.Core.Option.{Option, none, some}
 use Prim.Native.Nat.{ℕ, _-_, _/_, _%_, _^_}
 use lib.IntN.{ℤ}
 use lib.Signed.{ltZ}
 use lib.Dec.{eqb}
+use Rattle.tables.specs.Tables.{Row, _when_, first, answer}
 use Rattle.clock.specs.Numbers.{timeOutside}
-use Rattle.clock.specs.Refusals.{Row, _when_, first}
-use Rattle.clock.specs.Line.{identity}
-use Rattle.clock.specs.Clock.{monotonic, continuous, autoStart, byteOf}
+use Rattle.clock.specs.Clock.{monotonic, continuous, autoStart, byteOf, identity}
 use Rattle.clock.specs.declared.Clock.{Clock}
 use Rattle.clock.specs.declared.Created.{Created}
 use Rattle.clock.specs.declared.Created.the-variants.{Made, Refused}
@@ -54,8 +53,9 @@ pub record Creation : Type 0 where
 
 unfoldable pub creating : ℕ → ℤ → ℤ → Creation
 creating word backstop now =
-    let n = creationRefusal word backstop now in
-    record { refusal = n; clock = cond (eqb n 0) (some (created word backstop now)) none }
+    answer (creationTable word backstop now)
+    (record { refusal = 0; clock = some (created word backstop now) })
+    (λ n. record { refusal = n; clock = none })
 
 -- what each case of the enum that creation returns stands for
 abbrev pub told : Created → Creation

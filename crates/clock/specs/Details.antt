@@ -1,14 +1,10 @@
--- The details record at now, and whether the clock is started.
+-- The details at now, and whether the clock is started.
 use mathlib.Core.Bool.{Bool, false, cond, _&&_}
-use mathlib.Core.List.{List, [], _∷_}
-use Prim.Native.Nat.{ℕ}
+use mathlib.Core.List.{List}
 use lib.IntN.{ℤ, pos}
-use lib.Signed.{ltZ}
-use lib.Dec.{eqb}
-use Rattle.clock.specs.Numbers.{timeOutside}
-use Rattle.clock.specs.Refusals.{Row, _when_, first}
-use Rattle.clock.specs.Line.{zeroLine}
-use Rattle.clock.specs.Clock.{isRunning}
+use Rattle.tables.specs.Tables.{Row, answer}
+use Rattle.line.specs.Line.{zeroLine}
+use Rattle.clock.specs.Clock.{isRunning, timeTable}
 use Rattle.clock.specs.Taken.{isClock, guarded}
 use Rattle.clock.specs.declared.Clock.{Clock}
 use Rattle.clock.specs.declared.Details.{Details}
@@ -18,15 +14,9 @@ use Rattle.clock.specs.declared.Detailed.{Detailed}
 unfoldable pub isStarted : Clock → Bool
 isStarted c = isClock c && isRunning c
 
--- 'Only refusals 1 and 2 apply' (01, 'Details')
+-- refusals 1 and 2 alone (01, 'Details')
 unfoldable pub detailsTable : Clock → ℤ → List Row
-detailsTable c now =
-    (1 when timeOutside now
-    ∷ 2 when ltZ now (c .latest)
-    ∷ [])
-
-unfoldable pub detailsRefusal : Clock → ℤ → ℕ
-detailsRefusal c now = first (guarded c (detailsTable c now))
+detailsTable c now = timeTable c now
 
 -- in the paper's order; the line is given as zeros before the start
 unfoldable pub detailsOf : Clock → ℤ → Details
@@ -41,7 +31,6 @@ detailsOf c now = record {
   now = now;
 }
 
--- a record of zeros
 abbrev pub zeroDetails : Details
 zeroDetails = record {
   started = false;
@@ -54,8 +43,9 @@ zeroDetails = record {
   now = pos 0;
 }
 
--- the answer; a refused request gives a record of zeros
+-- the answer; a refused request gives zeros
 unfoldable pub detailing : Clock → ℤ → Detailed
 detailing c now =
-    let n = detailsRefusal c now in
-    record { refusal = n; details = cond (eqb n 0) (detailsOf c now) zeroDetails }
+    answer (guarded c (detailsTable c now))
+    (record { refusal = 0; details = detailsOf c now })
+    (λ n. record { refusal = n; details = zeroDetails })

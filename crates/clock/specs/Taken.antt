@@ -3,36 +3,27 @@ use mathlib.Core.Bool.{Bool, not, cond, _&&_}
 use mathlib.Core.List.{List, _∷_}
 use Prim.Native.Nat.{ℕ}
 use lib.IntN.{ℤ, pos}
-use lib.Signed.{leZ}
 use lib.Dec.{eqb, leb}
-use Rattle.clock.specs.Numbers.{isZero, timeOutside, rateOutside}
-use Rattle.clock.specs.Refusals.{Row, _when_}
-use Rattle.clock.specs.Line.{zeroLine, valueAt}
+use Rattle.clock.specs.Numbers.{END, MAX_RATE}
+use Rattle.tables.specs.Tables.{Row, _when_}
+use Rattle.line.specs.Line.{zeroLine, isZeros, bounded, reaches}
+use Rattle.line.specs.declared.Line.{Line}
 use Rattle.clock.specs.Clock.{autoStart, isRunning}
 use Rattle.clock.specs.Creation.{creationRefusal, UNKNOWN_ERROR}
-use Rattle.clock.specs.declared.Line.{Line}
 use Rattle.clock.specs.declared.Clock.{Clock}
-
--- the line (0, 0, 0)
-unfoldable pub isIdentity : Line → Bool
-isIdentity l = isZero (l .reference) && isZero (l .synthetic) && isZero (l .rate)
 
 -- reference and synthetic in 0..END, the rate in -1000..1000
 unfoldable pub drawable : Line → Bool
-drawable l = not (timeOutside (l .reference)) && not (timeOutside (l .synthetic)) && not (rateOutside (l .rate))
+drawable l = bounded l END MAX_RATE
 
--- at now the line shows at least the backstop, as rule 13 asks of a new line; `leZ a b` is a ≤ b. It may show more
--- than END: a clock runs on past it, and its readings are then refused with 12
-unfoldable pub showsBackstop : Line → ℤ → ℤ → Bool
-showsBackstop l now backstop = leZ backstop (valueAt l now)
-
--- as a clock may be that runs
+-- as a clock may be that runs: at its latest time the line shows at least the backstop, as rule 13 asks of a new line. It
+-- may show more than END: a clock runs on past it, and its readings are then refused with 12
 unfoldable pub mayRun : Clock → Bool
-mayRun c = drawable (c .line) && showsBackstop (c .line) (c .latest) (c .backstop)
+mayRun c = drawable (c .line) && reaches (c .line) (c .latest) (c .backstop)
 
--- exactly as creation left it, where it did not start it
+-- exactly as creation left it, where it did not start it; the identity line is zeros
 unfoldable pub asCreated : Clock → Bool
-asCreated c = not (autoStart (c .word)) && isIdentity (c .line) && eqb (c .error) UNKNOWN_ERROR && eqb (c .generation) 1
+asCreated c = not (autoStart (c .word)) && isZeros (c .line) && eqb (c .error) UNKNOWN_ERROR && eqb (c .generation) 1
 
 -- what is taken for a clock: started is 0 or 1; creation would take the word and the backstop at the latest time; the
 -- rest is as it may be of a clock that runs, or as creation left it

@@ -1,19 +1,21 @@
 -- Updates: the word, the new line, the refusals, and what an accepted update leaves.
 use mathlib.Core.Bool.{Bool, true, false, not, cond, _&&_, _||_}
-use mathlib.Core.List.{List, [], _∷_}
+use mathlib.Core.List.{List, [], _∷_, _++_}
 use Prim.Native.Nat.{ℕ, _+_, _/_, _%_, _^_}
 use lib.IntN.{ℤ, pos}
 use lib.Signed.{ltZ}
 use lib.Dec.{T, eqb}
 use mathlib.Core.Path.{_≡_}
-use Rattle.clock.specs.Numbers.{END, outside, timeOutside, rateOutside, bit}
-use Rattle.clock.specs.Refusals.{Row, _when_, first}
-use Rattle.clock.specs.Line.{line, valueAt}
-use Rattle.clock.specs.Clock.{monotonic, continuous, byteOf, isRunning, oldLine}
+use Rattle.tables.specs.Tables.{Row, _when_, answer}
+use Rattle.line.specs.Numbers.{outside}
+use Rattle.line.specs.Line.{line, valueAt, turned}
+use Rattle.line.specs.declared.Line.{Line}
+use Rattle.clock.specs.Numbers.{END, timeOutside, rateOutside, bit}
+use Rattle.clock.specs.Clock.{monotonic, continuous, byteOf, isRunning, oldLine, timeTable}
 use Rattle.clock.specs.Taken.{guarded}
-use Rattle.clock.specs.declared.Line.{Line}
 use Rattle.clock.specs.declared.Clock.{Clock}
 use Rattle.clock.specs.declared.Request.{Request}
+use Rattle.clock.specs.declared.Flags.{Flags}
 use Rattle.clock.specs.declared.Updated.{Updated}
 
 -- ---- the update word: version 6 bits; synthetic, reference, rate, error; 54 zero bits
@@ -33,6 +35,9 @@ hasRate u = bit 55 (u .word)
 
 abbrev pub hasError : Request → Bool
 hasError u = bit 54 (u .word)
+
+abbrev pub flagged : Request → Flags
+flagged u = record { synthetic = hasSynthetic u; reference = hasReference u; rate = hasRate u; error = hasError u }
 
 -- the last time and value that a word's fields may carry: one end for every word of version 2
 abbrev pub endOf : ℕ → ℤ
@@ -57,37 +62,33 @@ rateTooWide u = hasRate u && rateOutside (u .rate)
 -- ---- the new line
 
 -- P: the reference argument if flagged, else now (01, 'The update word and its effect')
-unfoldable pub place : Request → ℤ → ℤ
-place u now = cond (hasReference u) (u .reference) now
+unfoldable pub point : Request → ℤ → ℤ
+point u now = cond (hasReference u) (u .reference) now
 
 -- whether the line is replaced
 abbrev pub replaces : Request → Bool
 replaces u = hasSynthetic u || hasRate u
 
--- the effect table: synthetic flagged, rate flagged; T, P, S and the new a
+-- the effect table: synthetic flagged, rate flagged; T, P, S and the new a. `turned T P a` is (P, T(P), a)
 unfoldable pub effect : Bool → Bool → Line → ℤ → ℤ → ℤ → Line
 effect true false T P S a = line P S (T .rate)
-effect false true T P S a = line P (valueAt T P) a
+effect false true T P S a = turned T P a
 effect true true T P S a = line P S a
 effect false false T P S a = T
 
 -- before the start T is the identity line
 unfoldable pub newLine : Clock → Request → ℤ → Line
-newLine c u now = effect (hasSynthetic u) (hasRate u) (oldLine c) (place u now) (u .synthetic) (u .rate)
+newLine c u now = effect (hasSynthetic u) (hasRate u) (oldLine c) (point u now) (u .synthetic) (u .rate)
 
 -- ---- the refusals
 
--- the table of 01, 'When the clock says no', row by row; `ltZ a b` is a < b
-unfoldable pub updateTable : Clock → Request → ℤ → List Row
-updateTable c u now =
-    let new = newLine c u now in
-    let newValue = valueAt new now in
-    let oldValue = valueAt (oldLine c) now in
+-- the table of 01, 'When the clock says no', row by row; `ltZ a b` is a < b. First the rows of time, request and clock
+unfoldable pub requestTable : Clock → Request → ℤ → List Row
+requestTable c u now =
     let isMonotonic = monotonic (c .word) in
     let isContinuous = continuous (c .word) in
-    (1 when timeOutside now
-    ∷ 2 when ltZ now (c .latest)
-    ∷ 3 when wordWrong u
+    timeTable c now ++
+    (3 when wordWrong u
     ∷ 4 when not (hasSynthetic u || hasReference u || hasRate u || hasError u)
     ∷ 5 when valuesOutside u
     ∷ 6 when rateTooWide u
@@ -96,13 +97,21 @@ updateTable c u now =
     ∷ 9 when (isContinuous && hasReference u)
     ∷ 10 when (isContinuous && isRunning c && hasSynthetic u)
     ∷ 11 when (isMonotonic && isRunning c && hasSynthetic u && hasRate u)
-    ∷ 12 when (replaces u && (timeOutside (new .synthetic) || ltZ END newValue))
-    ∷ 13 when (replaces u && ltZ newValue (c .backstop))
-    ∷ 14 when (replaces u && isMonotonic && isRunning c && ltZ newValue oldValue)
     ∷ [])
 
-unfoldable pub updateRefusal : Clock → Request → ℤ → ℕ
-updateRefusal c u now = first (guarded c (updateTable c u now))
+-- then those of the new line, which apply only where the line is replaced
+unfoldable pub newLineTable : Clock → Request → ℤ → List Row
+newLineTable c u now =
+    let new = newLine c u now in
+    let newValue = valueAt new now in
+    let oldValue = valueAt (oldLine c) now in
+    (12 when (replaces u && (timeOutside (new .synthetic) || ltZ END newValue))
+    ∷ 13 when (replaces u && ltZ newValue (c .backstop))
+    ∷ 14 when (replaces u && (monotonic (c .word) && isRunning c && ltZ newValue oldValue))
+    ∷ [])
+
+unfoldable pub updateTable : Clock → Request → ℤ → List Row
+updateTable c u now = requestTable c u now ++ newLineTable c u now
 
 -- ---- the clock that an accepted update leaves
 
@@ -125,8 +134,9 @@ updated c u now = record {
 -- the answer: the new clock, or the old one with a refusal
 unfoldable pub updating : Clock → Request → ℤ → Updated
 updating c u now =
-    let n = updateRefusal c u now in
-    record { clock = cond (eqb n 0) (updated c u now) c; refusal = n }
+    answer (guarded c (updateTable c u now))
+    (record { clock = updated c u now; refusal = 0 })
+    (λ n. record { clock = c; refusal = n })
 
 -- ---- requests that ask for the same
 

@@ -1,32 +1,27 @@
 // A clock by value: created, read, updated and described. Times are whole nanoseconds.
 ghost use mathlib.Core.Path.{_≡_};
-ghost use mathlib.Core.Bool.{cond};
-ghost use lib.Dec.{T};
-ghost use Rattle.clock.specs.Refusals.{first};
-ghost use Rattle.clock.specs.Line.{line, identity, zeroLine};
-ghost use Rattle.clock.specs.Clock.{monotonic, continuous, autoStart, byteOf, oldLine, InRange, Drawable, Valid};
+ghost use mathlib.Core.Bool.{not, cond};
+ghost use Prim.Native.Nat.{_/_, _%_, _<_};
+ghost use lib.Dec.{T, eqb};
+ghost use Rattle.tables.specs.Tables.{first};
+ghost use Rattle.line.specs.Line.{zeroLine};
+ghost use Rattle.line.specs.Value.{placed, held};
+ghost use Rattle.clock.specs.Clock.{byteOf, identity, oldLine, timeTable, InRange, Drawable, Valid};
 ghost use Rattle.clock.specs.Creation.{creationTable, created, creating, told};
-ghost use Rattle.clock.specs.Taken.{isClock, zeroClock};
+ghost use Rattle.clock.specs.Taken.{isClock, guarded, zeroClock};
 ghost use Rattle.clock.specs.Reading.{clockValue, reading};
-ghost use Rattle.clock.specs.Update.{newLine, updateTable, nextGeneration, updated, updating};
+ghost use Rattle.clock.specs.Update.{valuesOutside, point, effect, hasSynthetic, hasRate, newLine, requestTable, newLineTable, nextGeneration, updated, updating};
 ghost use Rattle.clock.specs.Details.{isStarted, detailsOf, zeroDetails, detailing};
-ghost use Rattle.clock.specs.Parts.{rowsBefore, timeTable, placed, readOf, syntheticOf, drawnLine, lineTable};
+ghost use Rattle.clock.specs.Parts.{Judged, readOf};
 
 mod arguments;
 mod check;
-pub mod refusal;
-mod value;
 
-use refusal::next;
-use value::Value;
-
-// A line through the point (reference, synthetic) that gains 1,000,000 + rate millionths of a nanosecond in each nanosecond.
-#[repr(C)]
-pub struct Line {
-    pub reference: i64,
-    pub synthetic: i64,
-    pub rate: i32,
-}
+use line::Line;
+use line::Redrawn;
+use line::Value;
+use tables::next;
+use tables::refusal;
 
 // A clock, as creation gave it and accepted updates carried it on. A caller in another language may fill it with any
 // numbers, so each operation first tests whether they are a clock's. The byte started is 1 once the clock is started,
@@ -50,6 +45,14 @@ pub struct Request {
     pub reference: i64,
     pub rate: i32,
     pub error: u64,
+}
+
+// Which of its arguments a request flags.
+pub struct Flags {
+    pub synthetic: bool,
+    pub reference: bool,
+    pub rate: bool,
+    pub error: bool,
 }
 
 // What creation answers: a clock, or the number of a refusal and no clock.
@@ -85,6 +88,24 @@ pub struct Details {
     pub now: i64,
 }
 
+impl Details {
+    pub fn zeros() -> Details
+        ensures { λ r. ⌜ r ≡ zeroDetails ⌝ }
+    {
+        let line = Line::zeros();
+        Details {
+            started: false,
+            line,
+            error: 0,
+            generation: 0,
+            latest: 0,
+            word: 0,
+            backstop: 0,
+            now: 0,
+        }
+    }
+}
+
 // Details beside their refusal, which leaves them zeros.
 #[repr(C)]
 pub struct Detailed {
@@ -113,14 +134,18 @@ impl Clock {
     pub fn identity_line() -> Line
         ensures { λ r. ⌜ r ≡ identity ⌝ }
     {
-        through(0, 0, 0)
+        Line {
+            reference: 0,
+            synthetic: 0,
+            rate: 0,
+        }
     }
 
     // Zeros, which are no clock: they stand where a struct must hold one and there is none.
     pub fn zeros() -> Clock
         ensures { λ r. ⌜ r ≡ zeroClock ⌝ }
     {
-        let line = zero_line();
+        let line = Line::zeros();
         Clock {
             line,
             backstop: 0,
@@ -146,35 +171,24 @@ impl Clock {
     }
 
     // The clock's value at now: the backstop before the start, else the line's value. Most clocks that run are told by
-    // a short test; what it leaves open stands behind a call, so that the common way stays quick.
+    // a short test; the whole one stands behind a call, so that the common way stays quick.
     pub fn read(self, now: i64) -> Reading
         ensures { λ r. ⌜ r ≡ reading self now ⌝ }
     {
         if self.clearly_runs() {
-            self.read_clock(now)
+            self.read_tested(true, now)
         } else {
-            self.read_tested(now)
+            let taken = self.is_clock();
+            self.read_tested(taken, now)
         }
     }
 
-    fn read_tested(self, now: i64) -> Reading
+    // The same, once it is known whether it is a clock.
+    fn read_tested(self, taken: bool, now: i64) -> Reading
+        requires { ⌜ taken ≡ isClock self ⌝ }
         ensures { λ r. ⌜ r ≡ reading self now ⌝ }
     {
-        if self.is_clock() {
-            self.read_clock(now)
-        } else {
-            Reading {
-                refusal: refusal::NOT_A_CLOCK,
-                value: 0,
-            }
-        }
-    }
-
-    fn read_clock(self, now: i64) -> Reading
-        requires { ⌜ T (isClock self) ⌝ }
-        ensures { λ r. ⌜ r ≡ reading self now ⌝ }
-    {
-        let refusal = time_refusal(self.latest, now);
+        let refusal = self.time_refusal(taken, now);
         if refusal == 0 {
             let value = self.clock_value(now);
             read_answer(value)
@@ -187,27 +201,13 @@ impl Clock {
     pub fn update(self, request: Request, now: i64) -> Updated
         ensures { λ r. ⌜ r ≡ updating self request now ⌝ }
     {
-        if self.is_clock() {
-            self.update_clock(request, now)
-        } else {
-            Updated {
-                clock: self,
-                refusal: refusal::NOT_A_CLOCK,
-            }
-        }
-    }
-
-    fn update_clock(self, request: Request, now: i64) -> Updated
-        requires { ⌜ T (isClock self) ⌝ }
-        ensures { λ r. ⌜ r ≡ updating self request now ⌝ }
-    {
-        let refusal = self.request_refusal(request, now);
-        if refusal == 0 {
+        let told = self.request_refusal(request, now);
+        if told == 0 {
             self.redraw(request, now)
         } else {
             Updated {
                 clock: self,
-                refusal,
+                refusal: told,
             }
         }
     }
@@ -216,27 +216,13 @@ impl Clock {
     pub fn details(self, now: i64) -> Detailed
         ensures { λ r. ⌜ r ≡ detailing self now ⌝ }
     {
-        if self.is_clock() {
-            self.details_clock(now)
-        } else {
-            let details = no_details();
-            Detailed {
-                refusal: refusal::NOT_A_CLOCK,
-                details,
-            }
-        }
-    }
-
-    fn details_clock(self, now: i64) -> Detailed
-        requires { ⌜ T (isClock self) ⌝ }
-        ensures { λ r. ⌜ r ≡ detailing self now ⌝ }
-    {
-        let refusal = time_refusal(self.latest, now);
+        let taken = self.is_clock();
+        let refusal = self.time_refusal(taken, now);
         if refusal == 0 {
             let details = self.described(now);
             Detailed { refusal, details }
         } else {
-            let details = no_details();
+            let details = Details::zeros();
             Detailed { refusal, details }
         }
     }
@@ -249,18 +235,33 @@ impl Clock {
         taken & (self.started == 1)
     }
 
-    // Rules 1 to 11 of an update: the time, the request, and what the clock allows.
+    // The refusal of what is no clock, and refusals 1 and 2.
+    fn time_refusal(self, taken: bool, now: i64) -> u8
+        requires { ⌜ taken ≡ isClock self ⌝ }
+        ensures { λ r. ⌜ r ≡ first (guarded self (timeTable self now)) ⌝ }
+    {
+        let outside = arguments::is_outside(now);
+        let early = now < self.latest;
+        let r = next(0, !taken, refusal::NOT_A_CLOCK);
+        let r = next(r, outside, refusal::NOW_OUTSIDE);
+        next(r, early, refusal::NOW_EARLY)
+    }
+
+    // That of what is no clock, and rules 1 to 11 of an update: the time, the request, and what the clock allows.
     fn request_refusal(self, request: Request, now: i64) -> u8
-        ensures { λ r. ⌜ r ≡ first (rowsBefore 12 (updateTable self request now)) ⌝ }
+        ensures { λ r. ⌜ r ≡ first (guarded self (requestTable self request now)) ⌝ }
     {
         let started = self.started == 1;
-        let monotonic = is_monotonic(self.word);
-        let continuous = is_continuous(self.word);
-        let synthetic = request.has_synthetic();
-        let reference = request.has_reference();
-        let rate = request.has_rate();
-        let error = request.has_error();
-        let r = time_refusal(self.latest, now);
+        let monotonic = has(self.word, Clock::MONOTONIC);
+        let continuous = has(self.word, Clock::CONTINUOUS);
+        let Flags {
+            synthetic,
+            reference,
+            rate,
+            error,
+        } = request.flags();
+        let taken = self.is_clock();
+        let r = self.time_refusal(taken, now);
         let r = next(r, request.word_wrong(), refusal::WORD_WRONG);
         let r = next(
             r,
@@ -282,44 +283,51 @@ impl Clock {
 
     // The rest of an update that rules 1 to 11 let pass: the new line, and rules 12 to 14.
     fn redraw(self, request: Request, now: i64) -> Updated
-        requires { ⌜ T (isClock self) × (first (rowsBefore 12 (updateTable self request now)) ≡ 0) ⌝ }
+        requires { ⌜ first (guarded self (requestTable self request now)) ≡ 0 ⌝ }
         ensures { λ r. ⌜ r ≡ updating self request now ⌝ }
     {
         let old = self.old_line();
-        let place = request.place(now);
-        let start = new_synthetic(request, old, place);
-        let line = drawn_line(request, old, place, value::number(start));
-        let refusal = self.line_refusal(request.replaces(), start, line, now);
-        if refusal == 0 {
+        let point = request.point(now);
+        let redrawn = new_line(request, old, point);
+        let line = redrawn.line_or(old);
+        let judged = self.line_refusal(request, redrawn, line, old, now);
+        if judged == 0 {
             let clock = self.updated(request, line, now);
-            Updated { clock, refusal }
+            Updated {
+                clock,
+                refusal: judged,
+            }
         } else {
             Updated {
                 clock: self,
-                refusal,
+                refusal: judged,
             }
         }
     }
 
-    // Rules 12 to 14 of an update, whose new line has the value start at its own reference.
-    fn line_refusal(self, replaced: bool, start: Value, line: Line, now: i64) -> u8
-        requires { ⌜ Valid self × Drawable line × InRange now ⌝ }
-        ensures { λ r. ⌜ r ≡ first (lineTable self replaced start line now) ⌝ }
+    // Rules 12 to 14 of an update. The line is the one that was drawn, or else the old one.
+    fn line_refusal(self, request: Request, redrawn: Redrawn, line: Line, old: Line, now: i64) -> u8
+        requires { ⌜ Judged self request now redrawn line old ⌝ }
+        ensures { λ r. ⌜ r ≡ first (newLineTable self request now) ⌝ }
     {
-        let old = self.old_line();
-        let new_value = value::value_at(line, now);
-        let old_value = value::value_at(old, now);
-        let within = value::is_within(start);
-        let above = value::is_above(new_value);
-        let under = value::is_under(new_value, self.backstop);
-        let monotonic = is_monotonic(self.word);
-        let less = value::is_less(new_value, old_value);
-        let r = 0;
-        let r = next(r, replaced & (!within | above), refusal::LINE_OUTSIDE);
+        let Flags {
+            synthetic,
+            rate,
+            ..
+        } = request.flags();
+        let replaced = synthetic | rate;
+        let new_value = line.value_at(now);
+        let old_value = old.value_at(now);
+        let beyond = redrawn.is_beyond(Clock::END);
+        let above = new_value.is_over(Clock::END);
+        let under = new_value.is_under(self.backstop);
+        let monotonic = has(self.word, Clock::MONOTONIC);
+        let less = new_value.is_less(old_value);
+        let r = next(0, replaced & (beyond | above), refusal::LINE_OUTSIDE);
         let r = next(r, replaced & under, refusal::BELOW_BACKSTOP);
         next(
             r,
-            replaced & monotonic & (self.started == 1) & less,
+            replaced & (monotonic & (self.started == 1) & less),
             refusal::MONOTONIC_BACK,
         )
     }
@@ -329,9 +337,13 @@ impl Clock {
         requires { ⌜ line ≡ newLine self request now ⌝ }
         ensures { λ r. ⌜ r ≡ updated self request now ⌝ }
     {
-        let synthetic = request.has_synthetic();
+        let Flags {
+            synthetic,
+            rate,
+            ..
+        } = request.flags();
         let error = request.error_or(self.error);
-        let generation = next_generation(request.replaces(), self.generation);
+        let generation = next_generation(synthetic | rate, self.generation);
         let started = byte_of((self.started == 1) | synthetic);
         Clock {
             line,
@@ -361,7 +373,7 @@ impl Clock {
     {
         if self.started == 1 {
             let line = self.line;
-            value::value_at(line, now)
+            line.value_at(now)
         } else {
             Value::Within(self.backstop)
         }
@@ -385,31 +397,12 @@ impl Clock {
     }
 }
 
-// The line through the point (reference, synthetic).
-fn through(reference: i64, synthetic: i64, rate: i32) -> Line
-    ensures { λ r. ⌜ r ≡ line reference synthetic rate ⌝ }
-{
-    Line {
-        reference,
-        synthetic,
-        rate,
-    }
-}
-
-// Refusals 1 and 2, of a clock whose latest update was at latest.
-fn time_refusal(latest: i64, now: i64) -> u8
-    ensures { λ r. ⌜ r ≡ first (timeTable latest now) ⌝ }
-{
-    let r = next(0, arguments::is_outside(now), refusal::NOW_OUTSIDE);
-    next(r, now < latest, refusal::NOW_EARLY)
-}
-
 fn creation_refusal(word: u8, backstop: i64, now: i64) -> u8
     ensures { λ r. ⌜ r ≡ first (creationTable word backstop now) ⌝ }
 {
-    let monotonic = is_monotonic(word);
-    let continuous = is_continuous(word);
-    let auto_start = is_auto_start(word);
+    let monotonic = has(word, Clock::MONOTONIC);
+    let continuous = has(word, Clock::CONTINUOUS);
+    let auto_start = has(word, Clock::AUTO_START);
     let r = next(0, arguments::is_outside(now), refusal::NOW_OUTSIDE);
     let r = next(r, word % Clock::AUTO_START != 0, refusal::WORD_WRONG);
     let r = next(
@@ -428,7 +421,7 @@ fn creation_refusal(word: u8, backstop: i64, now: i64) -> u8
 fn new_clock(word: u8, backstop: i64, now: i64) -> Clock
     ensures { λ r. ⌜ r ≡ created word backstop now ⌝ }
 {
-    let started = byte_of(is_auto_start(word));
+    let started = byte_of(has(word, Clock::AUTO_START));
     let line = Clock::identity_line();
     Clock {
         line,
@@ -448,22 +441,12 @@ fn byte_of(b: bool) -> u8
     if b { 1 } else { 0 }
 }
 
-fn is_monotonic(word: u8) -> bool
-    ensures { λ r. ⌜ r ≡ monotonic word ⌝ }
+// Whether a creation word has a flag.
+fn has(word: u8, flag: u8) -> bool
+    requires { ⌜ 0 < flag ⌝ }
+    ensures { λ r. ⌜ r ≡ eqb (word / flag % 2) 1 ⌝ }
 {
-    word / Clock::MONOTONIC % 2 == 1
-}
-
-fn is_continuous(word: u8) -> bool
-    ensures { λ r. ⌜ r ≡ continuous word ⌝ }
-{
-    word / Clock::CONTINUOUS % 2 == 1
-}
-
-fn is_auto_start(word: u8) -> bool
-    ensures { λ r. ⌜ r ≡ autoStart word ⌝ }
-{
-    word / Clock::AUTO_START % 2 == 1
+    word / flag % 2 == 1
 }
 
 // The generation after an accepted update.
@@ -481,26 +464,23 @@ fn next_generation(replaced: bool, generation: u32) -> u32
     }
 }
 
-// The value of the new line at its own reference.
-fn new_synthetic(request: Request, old: Line, place: i64) -> Value
-    requires { ⌜ Drawable old × InRange place ⌝ }
-    ensures { λ r. ⌜ r ≡ syntheticOf request old place ⌝ }
+// The line that an update draws, where rules 5 and 6 let its arguments pass.
+fn new_line(request: Request, old: Line, point: i64) -> Redrawn
+    requires { ⌜ T (not (valuesOutside request)) × Drawable old × InRange point ⌝ }
+    ensures { λ r. ⌜ r ≡ held (effect (hasSynthetic request) (hasRate request) old point (request .synthetic) (request .rate)) ⌝ }
 {
-    if request.has_synthetic() {
-        Value::Within(request.synthetic)
+    let flags = request.flags();
+    if flags.synthetic {
+        let rate = request.rate_or(old.rate);
+        Redrawn::Drawn(Line {
+            reference: point,
+            synthetic: request.synthetic,
+            rate,
+        })
+    } else if flags.rate {
+        old.turn(point, request.rate)
     } else {
-        value::value_at(old, place)
-    }
-}
-
-fn drawn_line(request: Request, old: Line, place: i64, synthetic: i64) -> Line
-    ensures { λ r. ⌜ r ≡ drawnLine request old place synthetic ⌝ }
-{
-    let rate = request.rate_or(old.rate);
-    if request.replaces() {
-        through(place, synthetic, rate)
-    } else {
-        old
+        Redrawn::Drawn(old)
     }
 }
 
@@ -508,48 +488,22 @@ fn drawn_line(request: Request, old: Line, place: i64, synthetic: i64) -> Line
 fn shown_line(started: bool, line: Line) -> Line
     ensures { λ r. ⌜ r ≡ cond started line zeroLine ⌝ }
 {
-    if started { line } else { zero_line() }
+    if started { line } else { Line::zeros() }
 }
 
-fn zero_line() -> Line
-    ensures { λ r. ⌜ r ≡ zeroLine ⌝ }
-{
-    through(0, 0, 0)
-}
-
-// Details of zeros.
-fn no_details() -> Details
-    ensures { λ r. ⌜ r ≡ zeroDetails ⌝ }
-{
-    let line = zero_line();
-    Details {
-        started: false,
-        line,
-        error: 0,
-        generation: 0,
-        latest: 0,
-        word: 0,
-        backstop: 0,
-        now: 0,
-    }
-}
-
-// The answer to a reading. A valid clock's value is not below the range.
+// The answer to a reading of this value.
 fn read_answer(value: Value) -> Reading
     ensures { λ r. ⌜ r ≡ readOf value ⌝ }
 {
-    match value {
-        Value::Below => Reading {
-            refusal: 0,
-            value: 0,
-        },
-        Value::Within(x) => Reading {
-            refusal: 0,
-            value: x,
-        },
-        Value::Above => Reading {
+    if value.is_over(Clock::END) {
+        Reading {
             refusal: refusal::LINE_OUTSIDE,
             value: 0,
-        },
+        }
+    } else {
+        Reading {
+            refusal: 0,
+            value: value.number(),
+        }
     }
 }

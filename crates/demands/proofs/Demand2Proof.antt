@@ -4,31 +4,31 @@ use mathlib.Core.Bool.{not, cond}
 use mathlib.Core.List.{List, [], _∷_, _++_}
 use Prim.Native.Nat.{ℕ}
 use lib.IntN.{ℤ}
-use lib.Signed.{_≤ℤ_}
+use lib.Signed.{_≤ℤ_, ≤ℤ-refl}
 use lib.Dec.{T}
-use Rattle.clock.specs.Line.{line, valueAt}
+use Rattle.tables.proofs.Tests.{by-cases}
+use Rattle.line.specs.Line.{valueAt}
+use Rattle.line.specs.declared.Line.{Line}
+use Rattle.line.proofs.Linear.{≤ℤ-trans}
 use Rattle.clock.specs.Clock.{isRunning, monotonic, Valid}
 use Rattle.clock.specs.Taken.{isClock}
 use Rattle.clock.specs.Update.{updated}
 use Rattle.clock.specs.Calls.{Call, update, ask, accepted, after, afterAll, given}
-use Rattle.clock.specs.declared.Line.{Line}
 use Rattle.clock.specs.declared.Clock.{Clock}
 use Rattle.clock.specs.declared.Request.{Request}
 use Rattle.clock.specs.Reading.{clockValue}
-use Rattle.clock.proofs.Linear.{≤ℤ-trans}
-use Rattle.clock.proofs.Tests.{by-cases}
-use Rattle.clock.proofs.Ranges.{≤ℤ-refl}
-use Rattle.clock.proofs.ValueLaws.{running-line, running-value, running-old-value, resting-value, clock-rises, above-backstop}
+use Rattle.clock.proofs.Values.{running-line, running-value, running-old-value, resting-value, clock-rises, above-backstop}
+use Rattle.clock.proofs.Taken.{taken-valid}
+use Rattle.clock.proofs.Rows.{either-way}
+use Rattle.clock.proofs.Clocks.{not-early, updated-started, updated-clock, after-clock}
 use Rattle.demands.specs.Kept.{Kept}
 use Rattle.demands.specs.Demand2.{NotBelow, timeOf, valueOf, moment, times, readings, From, NeverFalls, Agrees}
 use Rattle.demands.specs.Demand2.{AsWritten, Demand2·update, Demand2·backstop, Demand2·monotonic, Demand2·continuous}
-use Rattle.demands.proofs.Rows.{either-way, Known, of-given}
-use Rattle.demands.proofs.AcceptedUpdate.{not-early, updated-started, new-not-back, new-agrees}
+use Rattle.demands.proofs.Rows.{Known, of-given}
+use Rattle.demands.proofs.AcceptedUpdate.{new-not-back, new-agrees}
 use Rattle.demands.proofs.Walks.{of-each, of-any}
-use Rattle.clock.proofs.Taken.{taken-valid}
-use Rattle.demands.proofs.Clocks.{created-clock, updated-clock, after-clock}
 use Rattle.demands.proofs.Demand1Proof.{demand1·clock}
-use Rattle.demands.proofs.KeptProof.{created-kept, after-kept, always-kept, reading-above}
+use Rattle.demands.proofs.KeptProof.{creation-gives-clock, created-kept, after-kept, always-kept, reading-above}
 
 -- ---- each update is as written
 
@@ -38,7 +38,7 @@ written c (update u now) t = demand1·clock c t .update u now
 
 pub demand2·update : Demand2·update
 demand2·update word backstop now c e calls =
-    of-each (λ d. T (isClock d)) after-clock AsWritten written c calls (created-clock word backstop now c e)
+    of-each (λ d. T (isClock d)) after-clock AsWritten written c calls (creation-gives-clock word backstop now c e)
 
 -- ---- no reading is below the backstop
 

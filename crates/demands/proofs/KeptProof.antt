@@ -1,34 +1,36 @@
 -- What is taken for a clock, and what a clock that creation gave keeps to.
-use mathlib.Core.Path.{_≡_, refl, subst}
+use mathlib.Core.Path.{_≡_, refl, ap, _∙_, subst}
 use Prim.Native.Nat.{ℕ}
 use lib.IntN.{ℤ}
 use lib.Signed.{_≤ℤ_}
-use lib.Dec.{T}
+use lib.Dec.{T, eqb}
+use Rattle.line.proofs.Linear.{≤ℤ-trans}
 use Rattle.clock.specs.Clock.{isRunning}
+use Rattle.clock.specs.Taken.{isClock, NOT_A_CLOCK}
 use Rattle.clock.specs.Creation.{created}
-use Rattle.clock.specs.Reading.{readingTable, readingRefusal, reading}
-use Rattle.clock.specs.Update.{updateTable, updateRefusal, updated, updating}
-use Rattle.clock.specs.Details.{detailsTable, detailsRefusal, detailing}
-use Rattle.clock.specs.Calls.{Call, update, ask, read, details, refusalOf, after}
+use Rattle.clock.specs.Update.{updated}
+use Rattle.clock.specs.Calls.{Call, update, ask, callTable, after}
 use Rattle.clock.specs.declared.Clock.{Clock}
-use Rattle.clock.proofs.Linear.{≤ℤ-trans}
-use Rattle.clock.proofs.ValueLaws.{above-backstop}
-use Rattle.clock.proofs.Taken.{guarded-apart, taken-valid, taken-created, resting-created, zeros-not-taken}
+use Rattle.clock.proofs.Values.{above-backstop}
+use Rattle.clock.proofs.Taken.{taken-valid, taken-created, created-taken, resting-created, zeros-not-taken}
+use Rattle.clock.proofs.Guarded.{guarded-apart}
+use Rattle.clock.proofs.Rows.{refusal-is, call-lacks, either-way}
+use Rattle.clock.proofs.Clocks.{updated-clock, after-clock, after-started}
 use Rattle.demands.specs.Lives.{Gave}
 use Rattle.demands.specs.Demand2.{NotBelow}
 use Rattle.demands.specs.Kept.{CreationGivesClock, CallsLeaveClock, ClocksValid, UnstartedAsCreated, ZerosNoClock, ToldApart, StaysStarted, WithinRange, AnyReading, Kept, AlwaysKept}
-use Rattle.demands.proofs.Rows.{either-way, gave, gives, Known, of-given}
-use Rattle.demands.proofs.AcceptedUpdate.{updated-started}
+use Rattle.demands.proofs.Rows.{gave, gives, Known, of-given}
 use Rattle.demands.proofs.Walks.{kept-by-all}
-use Rattle.demands.proofs.Clocks.{created-clock, updated-clock, all-clocks}
 
 -- ---- what is taken for a clock
 
 pub creation-gives-clock : CreationGivesClock
-creation-gives-clock = created-clock
+creation-gives-clock word backstop now c e =
+    let g = gave word backstop now c e in
+    subst (λ (d : Clock). T (isClock d)) (g .is) (created-taken word backstop now (g .unrefused))
 
 pub calls-leave-clock : CallsLeaveClock
-calls-leave-clock = all-clocks
+calls-leave-clock = kept-by-all (λ c. T (isClock c)) after-clock
 
 pub clocks-valid : ClocksValid
 clocks-valid = taken-valid
@@ -44,15 +46,7 @@ zeros-no-clock = zeros-not-taken
 -- ---- whatever numbers are handed in
 
 pub told-apart : ToldApart
-unfolding refusalOf reading readingRefusal readingTable updating updateRefusal updateTable detailing detailsRefusal detailsTable
-told-apart c (update u now) = guarded-apart c (updateTable c u now) tt
-told-apart c (ask (read now)) = guarded-apart c (readingTable c now) tt
-told-apart c (ask (details now)) = guarded-apart c (detailsTable c now) tt
-
-pub after-started : (c : Clock) (k : Call) → T (isRunning c) → T (isRunning (after c k))
-unfolding after
-after-started c (ask q) s = s
-after-started c (update u now) s = either-way (λ b d. T (isRunning d)) c u now (λ t. updated-started c u now t) s
+told-apart c k = ap (λ (n : ℕ). eqb n NOT_A_CLOCK) (refusal-is c k) ∙ guarded-apart c (callTable c k) (call-lacks c k)
 
 pub stays-started : StaysStarted
 stays-started = kept-by-all (λ c. T (isRunning c)) after-started
@@ -76,7 +70,7 @@ any-reading c k = (
 pub created-kept : (word : ℕ) (backstop now : ℤ) (c : Clock) → Gave word backstop now c → Kept word backstop c
 unfolding created
 created-kept word backstop now c e = record {
-  clock = created-clock word backstop now c e;
+  clock = creation-gives-clock word backstop now c e;
   sameWord = subst (λ (d : Clock). d .word ≡ word) (gave word backstop now c e .is) refl;
   sameBackstop = subst (λ (d : Clock). d .backstop ≡ backstop) (gave word backstop now c e .is) refl;
 }

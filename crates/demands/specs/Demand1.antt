@@ -5,15 +5,13 @@ use mathlib.Core.List.{List}
 use mathlib.Core.Option.{none, some}
 use mathlib.Core.Path.{_≡_}
 use Prim.Native.Nat.{ℕ}
-use lib.IntN.{ℤ, pos}
+use lib.IntN.{ℤ}
 use lib.Dec.{T}
-use Rattle.clock.specs.Refusals.{Row, Settled}
+use Rattle.tables.specs.Tables.{Row, Settled}
 use Rattle.clock.specs.Taken.{isClock, guarded}
 use Rattle.clock.specs.Creation.{creationTable, created, creating}
-use Rattle.clock.specs.Reading.{clockValue, readingTable, reading}
 use Rattle.clock.specs.Update.{updateTable, updated, updating}
-use Rattle.clock.specs.Details.{detailsTable, detailsOf, zeroDetails, detailing}
-use Rattle.clock.specs.Calls.{Call, update, ask, read, details, accepted, after}
+use Rattle.clock.specs.Calls.{Ask, askTable, asking, answered, unanswered, Call, update, ask, refusalOf, accepted, after}
 use Rattle.clock.specs.declared.Clock.{Clock}
 use Rattle.clock.specs.declared.Request.{Request}
 use Rattle.demands.specs.Lives.{Gave, Each}
@@ -26,37 +24,26 @@ Demand1·create = (word : ℕ) (backstop now : ℤ) →
     (record { refusal = 0; clock = some (created word backstop now) })
     (λ n. record { refusal = n; clock = none })
 
--- a call on c is settled by these rows
-abbrev pub ReadBy : List Row → Clock → ℤ → Type 0
-ReadBy rows c now = Settled rows (reading c now)
-    (record { refusal = 0; value = clockValue c now })
-    (λ n. record { refusal = n; value = pos 0 })
-
+-- an update of c, and any question to it, is settled by these rows
 abbrev pub UpdatedBy : List Row → Clock → Request → ℤ → Type 0
 UpdatedBy rows c u now = Settled rows (updating c u now)
     (record { clock = updated c u now; refusal = 0 })
     (λ n. record { clock = c; refusal = n })
 
-abbrev pub DetailedBy : List Row → Clock → ℤ → Type 0
-DetailedBy rows c now = Settled rows (detailing c now)
-    (record { refusal = 0; details = detailsOf c now })
-    (λ n. record { refusal = n; details = zeroDetails })
+abbrev pub AnsweredBy : List Row → Clock → Ask → Type 0
+AnsweredBy rows c q = Settled rows (asking c q) (answered c q) (unanswered q)
 
 -- of anything that is handed in: the row of our own, then the paper's table
-abbrev pub Demand1·read : Type 0
-Demand1·read = (c : Clock) (now : ℤ) → ReadBy (guarded c (readingTable c now)) c now
-
 abbrev pub Demand1·update : Type 0
 Demand1·update = (c : Clock) (u : Request) (now : ℤ) → UpdatedBy (guarded c (updateTable c u now)) c u now
 
-abbrev pub Demand1·details : Type 0
-Demand1·details = (c : Clock) (now : ℤ) → DetailedBy (guarded c (detailsTable c now)) c now
+abbrev pub Demand1·ask : Type 0
+Demand1·ask = (c : Clock) (q : Ask) → AnsweredBy (guarded c (askTable c q)) c q
 
 -- of a clock: the paper's table alone
 pub record ByThePaper (c : Clock) : Type 0 where
-  pub read : (now : ℤ) → ReadBy (readingTable c now) c now
   pub update : (u : Request) (now : ℤ) → UpdatedBy (updateTable c u now) c u now
-  pub details : (now : ℤ) → DetailedBy (detailsTable c now) c now
+  pub ask : (q : Ask) → AnsweredBy (askTable c q) c q
 
 abbrev pub Demand1·clock : Type 0
 Demand1·clock = (c : Clock) → T (isClock c) → ByThePaper c
@@ -65,8 +52,7 @@ Demand1·clock = (c : Clock) → T (isClock c) → ByThePaper c
 
 abbrev pub Zeros : Clock → Call → Type 0
 Zeros c (update u now) = Unit {0}
-Zeros c (ask (read now)) = reading c now .value ≡ pos 0
-Zeros c (ask (details now)) = detailing c now .details ≡ zeroDetails
+Zeros c (ask q) = asking c q ≡ unanswered q (refusalOf c (ask q))
 
 pub record Unaltered (c : Clock) (k : Call) : Type 0 where
   pub clock : after c k ≡ c

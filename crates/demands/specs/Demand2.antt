@@ -6,7 +6,7 @@ use Prim.Native.Nat.{ℕ}
 use lib.IntN.{ℤ}
 use lib.Signed.{_≤ℤ_}
 use lib.Dec.{T}
-use Rattle.clock.specs.Line.{valueAt}
+use Rattle.line.specs.Line.{valueAt}
 use Rattle.clock.specs.Clock.{isRunning, monotonic, continuous}
 use Rattle.clock.specs.Update.{updateTable, updating, SameRequest}
 use Rattle.clock.specs.Calls.{Call, update, ask, accepted, after, afterAll, Given, nothing, _at_, given}

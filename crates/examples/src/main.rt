@@ -3,10 +3,10 @@ mod shown;
 mod there_and_back;
 
 fn main() {
-    lines::write(b"shown: ");
-    lines::signed(shown::shown());
-    lines::end();
-    lines::write(b"there and back: ");
-    lines::signed(lines::wide(there_and_back::there_and_back()));
-    lines::end();
+    print::write(b"shown: ");
+    print::signed(shown::shown());
+    print::end();
+    print::write(b"there and back: ");
+    print::signed(print::wide(there_and_back::there_and_back()));
+    print::end();
 }

@@ -9,10 +9,10 @@ pub fn there_and_back() -> i32 {
         rate: -23,
         error: 0,
     };
-    let mut buffer = [0u8; 27];
+    let mut buffer = [0u8; slip::MAX_LENGTH];
     let written = slip::write(trim, &mut buffer);
     let length = written.length;
-    if length <= 27 {
+    if length <= slip::MAX_LENGTH {
         let received = slip::read(&buffer[0..length]);
         let request = received.request;
         request.rate

@@ -81,10 +81,6 @@ pub digits-number : (a : List Bool) → digits (length a) (number a) ≡ a
 digits-number a =
     number-inj _ _ (length-digits (length a) (number a)) (number-digits (length a) (number a) ∙ mod-eq-of-lt (number-lt a))
 
-pub digits-inj : (w n m : ℕ) → n < 2 ^ w → m < 2 ^ w → digits w n ≡ digits w m → n ≡ m
-digits-inj w n m hn hm e =
-    sym (number-digits w n ∙ mod-eq-of-lt hn) ∙ ap number e ∙ number-digits w m ∙ mod-eq-of-lt hm
-
 -- the low bits are all that counts
 pub digits-low : (k n m : ℕ) → n % 2 ^ k ≡ m % 2 ^ k → digits k n ≡ digits k m
 digits-low k n m e = number-inj _ _ (simp length-digits) (simp (number-digits, e))

@@ -6,15 +6,14 @@ use Prim.Native.Nat.{ℕ, _+_, _≤_}
 use native.Mathlib.Nat.{add-zero}
 use native.Mathlib.Omega.{arith}
 use lib.ListN.{length, take, drop, length-append, length-drop, take-append-drop}
-use lib.Seq.{drop-append-add, take-append-seam, drop-drop, take-at, drop-at, length-take-le}
-use Rattle.fields.specs.Bits.{row}
+use lib.Seq.{drop-append-add, take-append-seam, drop-drop, drop-at, length-take-le}
 use Rattle.fields.specs.Field.{over}
 
--- a row, cut around w bits from `at` on
-pub cut : (r : List Bool) (at w : ℕ) → r ≡ take at r ++ (take w (drop at r) ++ drop (at + w) r)
-cut r at w =
-    sym (take-append-drop at r)
-    ∙ ap (λ (t : List Bool). take at r ++ t) (sym (take-append-drop w (drop at r)) ∙ ap (λ (t : List Bool). take w (drop at r) ++ t) (drop-drop w at r))
+-- a row, cut around w bits from a place on
+pub cut : (r : List Bool) (place w : ℕ) → r ≡ take place r ++ (take w (drop place r) ++ drop (place + w) r)
+cut r place w =
+    sym (take-append-drop place r)
+    ∙ ap (λ (t : List Bool). take place r ++ t) (sym (take-append-drop w (drop place r)) ∙ ap (λ (t : List Bool). take w (drop place r) ++ t) (drop-drop w place r))
 
 over-mid : (a m new s : List Bool) → length m ≡ length new → over (a ++ (m ++ s)) (length a) new ≡ a ++ (new ++ s)
 unfolding over
@@ -27,59 +26,24 @@ over-mid a m new s e =
     (append-assoc a new s)
 
 -- a row in three parts, the middle one replaced
-pub over-part : (r a m new s : List Bool) (at : ℕ) → r ≡ a ++ (m ++ s) → length a ≡ at → length m ≡ length new → over r at new ≡ a ++ (new ++ s)
-over-part r a m new s at e l h = ap₂ (λ (x : List Bool) (n : ℕ). over x n new) e (sym l) ∙ over-mid a m new s h
+pub over-part : (r a m new s : List Bool) (place : ℕ) → r ≡ a ++ (m ++ s) → length a ≡ place → length m ≡ length new → over r place new ≡ a ++ (new ++ s)
+over-part r a m new s place e l h = ap₂ (λ (x : List Bool) (n : ℕ). over x n new) e (sym l) ∙ over-mid a m new s h
 
-pub over-none : (r : List Bool) (at : ℕ) → over r at [] ≡ r
+pub over-none : (r : List Bool) (place : ℕ) → over r place [] ≡ r
 unfolding over
-over-none r at = rw (append-nil (take at r), add-zero at) (take-append-drop at r)
-
-pub length-over : (r : List Bool) (at : ℕ) (new : List Bool) → at + length new ≤ length r → length (over r at new) ≡ length r
-unfolding over
-length-over r at new h =
-    omega (
-      arith,
-      length-append (take at r ++ new) (drop (at + length new) r),
-      length-append (take at r) new,
-      length-take-le at r (omega arith),
-      length-drop (at + length new) r,
-    )
-
--- what was put is there
-pub over-same : (r : List Bool) (at : ℕ) (new : List Bool) → at + length new ≤ length r → take (length new) (drop at (over r at new)) ≡ new
-unfolding over
-over-same r at new h =
-    rw (
-      append-assoc (take at r) new (drop (at + length new) r),
-      drop-at (take at r) (new ++ drop (at + length new) r) at (length-take-le at r (omega arith)),
-    )
-    (take-append-seam new (drop (at + length new) r))
-
--- what stands before is as it was
-pub over-before : (r : List Bool) (at : ℕ) (new : List Bool) → at + length new ≤ length r → take at (over r at new) ≡ take at r
-unfolding over
-over-before r at new h =
-    rw (append-assoc (take at r) new (drop (at + length new) r))
-    (take-at (take at r) (new ++ drop (at + length new) r) at (length-take-le at r (omega arith)))
-
--- and what stands after
-pub over-after : (r : List Bool) (at : ℕ) (new : List Bool) → at + length new ≤ length r → drop (at + length new) (over r at new) ≡ drop (at + length new) r
-unfolding over
-over-after r at new h =
-    drop-at (take at r ++ new) (drop (at + length new) r) (at + length new)
-    (omega (arith, length-append (take at r) new, length-take-le at r (omega arith)))
+over-none r place = rw (append-nil (take place r), add-zero place) (take-append-drop place r)
 
 -- two that follow each other are one
 pub over-over
-    : (r : List Bool) (at : ℕ) (a b : List Bool) (at2 : ℕ) → at2 ≡ at + length a → at + length a + length b ≤ length r
-    → over (over r at a) at2 b ≡ over r at (a ++ b)
+    : (r : List Bool) (place : ℕ) (a b : List Bool) (place2 : ℕ) → place2 ≡ place + length a → place + length a + length b ≤ length r
+    → over (over r place a) place2 b ≡ over r place (a ++ b)
 unfolding over
-over-over r at a b at2 e h =
-    let d : List Bool = drop (at + length a) r in
-    let la : length (take at r ++ a) ≡ at2 = omega (arith, length-append (take at r) a, length-take-le at r (omega arith)) in
-    let lb : length (take (length b) d) ≡ length b = length-take-le (length b) d (omega (arith, length-drop (at + length a) r)) in
-    let le : at + length a + length b ≡ at + length (a ++ b) = omega (arith, length-append a b) in
-    over-part (take at r ++ a ++ d) (take at r ++ a) (take (length b) d) b (drop (length b) d) at2
-    (ap (λ (t : List Bool). take at r ++ a ++ t) (sym (take-append-drop (length b) d))) la lb
-    ∙ sym (append-assoc (take at r ++ a) b (drop (length b) d))
-    ∙ ap₂ (λ (x y : List Bool). x ++ y) (append-assoc (take at r) a b) (drop-drop (length b) (at + length a) r ∙ ap (λ (n : ℕ). drop n r) le)
+over-over r place a b place2 e h =
+    let d : List Bool = drop (place + length a) r in
+    let la : length (take place r ++ a) ≡ place2 = omega (arith, length-append (take place r) a, length-take-le place r (omega arith)) in
+    let lb : length (take (length b) d) ≡ length b = length-take-le (length b) d (omega (arith, length-drop (place + length a) r)) in
+    let le : place + length a + length b ≡ place + length (a ++ b) = omega (arith, length-append a b) in
+    over-part (take place r ++ a ++ d) (take place r ++ a) (take (length b) d) b (drop (length b) d) place2
+    (ap (λ (t : List Bool). take place r ++ a ++ t) (sym (take-append-drop (length b) d))) la lb
+    ∙ sym (append-assoc (take place r ++ a) b (drop (length b) d))
+    ∙ ap₂ (λ (x y : List Bool). x ++ y) (append-assoc (take place r) a b) (drop-drop (length b) (place + length a) r ∙ ap (λ (n : ℕ). drop n r) le)

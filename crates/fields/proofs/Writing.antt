@@ -92,23 +92,23 @@ digits-next n k left value =
 
 -- n high bits of the w stand in l; with the next k in the byte x, n + k stand there
 pub put-step
-    : (l0 l : List ℕ) (at n k w value x : ℕ) → length l ≡ length l0 → row l ≡ over (row l0) at (digits n (value / 2 ^ (w - n)))
-    → 0 < k → n + k ≤ w → at + w ≤ 8 * length l0 → (at + n) % 8 + k ≤ 8
-    → digits 8 x ≡ over (digits 8 (getD l ((at + n) / 8) 0)) ((at + n) % 8) (digits k (value / 2 ^ (w - n - k) % 2 ^ k))
-    → row (set l ((at + n) / 8) x) ≡ over (row l0) at (digits (n + k) (value / 2 ^ (w - (n + k))))
-put-step l0 l at n k w value x len inv pos hk hw ho ex =
-    let i : ℕ = (at + n) / 8 in
-    let o : ℕ = (at + n) % 8 in
+    : (l0 l : List ℕ) (place n k w value x : ℕ) → length l ≡ length l0 → row l ≡ over (row l0) place (digits n (value / 2 ^ (w - n)))
+    → 0 < k → n + k ≤ w → place + w ≤ 8 * length l0 → (place + n) % 8 + k ≤ 8
+    → digits 8 x ≡ over (digits 8 (getD l ((place + n) / 8) 0)) ((place + n) % 8) (digits k (value / 2 ^ (w - n - k) % 2 ^ k))
+    → row (set l ((place + n) / 8) x) ≡ over (row l0) place (digits (n + k) (value / 2 ^ (w - (n + k))))
+put-step l0 l place n k w value x len inv pos hk hw ho ex =
+    let i : ℕ = (place + n) / 8 in
+    let o : ℕ = (place + n) % 8 in
     let left : ℕ = w - n - k in
     let new : List Bool = digits k (value / 2 ^ left % 2 ^ k) in
     let d : List Bool = digits n (value / 2 ^ (w - n)) in
     let ln : length new ≡ k = length-digits k (value / 2 ^ left % 2 ^ k) in
     let ld : length d ≡ n = length-digits n (value / 2 ^ (w - n)) in
-    let e : 8 * i + o ≡ at + n = omega arith in
+    let e : 8 * i + o ≡ place + n = omega arith in
     let f : w - n ≡ left + k = omega arith in
     let g : left ≡ w - (n + k) = omega arith in
     over-byte l i o x new (omega arith) (omega arith) ex
     ∙ ap₂ (λ (r : List Bool) (p : ℕ). over r p new) inv e
-    ∙ over-over (row l0) at d new (at + n) (omega arith) (omega (arith, length-row l0))
-    ∙ ap (over (row l0) at)
+    ∙ over-over (row l0) place d new (place + n) (omega arith) (omega (arith, length-row l0))
+    ∙ ap (over (row l0) place)
     (ap (λ (y : ℕ). digits n (value / 2 ^ y) ++ new) f ∙ digits-next n k left value ∙ ap (λ (y : ℕ). digits (n + k) (value / 2 ^ y)) g)

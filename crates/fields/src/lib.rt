@@ -10,7 +10,7 @@ ghost use Rattle.fields.specs.Reader.{readerAt, movedOn, taken};
 // The lent bytes, and the place of the next field in bits.
 pub struct Reader<'a> {
     src: &'a [u8],
-    at: usize,
+    place: usize,
 }
 
 // A field, and the place after it.
@@ -20,52 +20,52 @@ pub struct Taken {
 }
 
 impl<'a> Reader<'a> {
-    pub fn new(src: &'a [u8], at: usize) -> Reader<'a>
-        ensures { λ r. ⌜ r ≡ readerAt (src .entry) at ⌝ }
+    pub fn new(src: &'a [u8], place: usize) -> Reader<'a>
+        ensures { λ r. ⌜ r ≡ readerAt (src .entry) place ⌝ }
     {
-        Reader { src, at }
+        Reader { src, place }
     }
 
     // The field at the reader's place.
     pub fn field(self, width: usize) -> u64
-        requires { ⌜ Inside (now (self .src)) (self .at) width ⌝ }
-        ensures { λ r. ⌜ r ≡ field (now (self .entry .src)) (self .entry .at) width ⌝ }
+        requires { ⌜ Inside (now (self .src)) (self .place) width ⌝ }
+        ensures { λ r. ⌜ r ≡ field (now (self .entry .src)) (self .entry .place) width ⌝ }
     {
-        get(self.src, self.at, width)
+        get(self.src, self.place, width)
     }
 
     // The reader with its place after that field.
     pub fn past(self, width: usize) -> Reader<'a>
-        requires { ⌜ self .at + width < 2 ^ 64 ⌝ }
+        requires { ⌜ self .place + width < 2 ^ 64 ⌝ }
         ensures { λ r. ⌜ r ≡ movedOn (self .entry) width ⌝ }
     {
         Reader {
             src: self.src,
-            at: self.at + width,
+            place: self.place + width,
         }
     }
 }
 
-// Takes a field through a reader that is moved on. Reading a record, pass `next` on as the place of the field that follows.
-pub fn take(bytes: &[u8], at: usize, width: usize) -> Taken
-    requires { ⌜ Inside (now bytes) at width ⌝ }
-    ensures { λ r. ⌜ r ≡ taken (now (bytes .entry)) at width ⌝ }
+// Takes a field through a reader that is moved on. Reading a record, pass `next` on as the place of the next field.
+pub fn take(bytes: &[u8], place: usize, width: usize) -> Taken
+    requires { ⌜ Inside (now bytes) place width ⌝ }
+    ensures { λ r. ⌜ r ≡ taken (now (bytes .entry)) place width ⌝ }
 {
-    let reader = Reader::new(bytes, at);
+    let reader = Reader::new(bytes, place);
     let value = reader.field(width);
     let moved = reader.past(width);
     Taken {
         value,
-        next: moved.at,
+        next: moved.place,
     }
 }
 
-// Takes fields of the given widths, one after another from the place `at` on.
-pub fn take_all(bytes: &[u8], at: usize, widths: &[usize], values: &mut [u64])
-    requires { ⌜ (length (now values) ≡ length (now widths)) × AllInside (now bytes) at (now widths) ⌝ }
-    ensures { λ _. ⌜ now (values .exit) ≡ fields (now (bytes .entry)) at (now (widths .entry)) ⌝ }
+// Takes fields of the given widths, one after another from a place on.
+pub fn take_all(bytes: &[u8], place: usize, widths: &[usize], values: &mut [u64])
+    requires { ⌜ (length (now values) ≡ length (now widths)) × AllInside (now bytes) place (now widths) ⌝ }
+    ensures { λ _. ⌜ now (values .exit) ≡ fields (now (bytes .entry)) place (now (widths .entry)) ⌝ }
 {
-    let mut p = at;
+    let mut p = place;
     let mut i: usize = 0;
     while i < widths.len() {
         let width = widths[i];
@@ -76,15 +76,15 @@ pub fn take_all(bytes: &[u8], at: usize, widths: &[usize], values: &mut [u64])
     }
 }
 
-// The field of `width` bits from the place `at` on, a bit at a time.
-fn get(bytes: &[u8], at: usize, width: usize) -> u64
-    requires { ⌜ Inside (now bytes) at width ⌝ }
-    ensures { λ r. ⌜ r ≡ field (now (bytes .entry)) at width ⌝ }
+// The field of `width` bits from a place on, a bit at a time.
+fn get(bytes: &[u8], place: usize, width: usize) -> u64
+    requires { ⌜ Inside (now bytes) place width ⌝ }
+    ensures { λ r. ⌜ r ≡ field (now (bytes .entry)) place width ⌝ }
 {
     let mut value: u64 = 0;
     let mut n: usize = 0;
     while n < width {
-        let p = at + n;
+        let p = place + n;
         let i = p / 8;
         let b = bit_of(bytes[i], p % 8);
         value = value * 2 + b;
@@ -93,14 +93,14 @@ fn get(bytes: &[u8], at: usize, width: usize) -> u64
     value
 }
 
-// Writes the `width` low bits of the value from the place `at` on. Every other bit stays.
-pub fn put(buf: &mut [u8], at: usize, width: usize, value: u64)
-    requires { ⌜ Inside (now buf) at width ⌝ }
-    ensures { λ _. ⌜ row (now (buf .exit)) ≡ over (row (now (buf .entry))) at (digits width value) ⌝ }
+// Writes the `width` low bits of the value from a place on. Every other bit stays.
+pub fn put(buf: &mut [u8], place: usize, width: usize, value: u64)
+    requires { ⌜ Inside (now buf) place width ⌝ }
+    ensures { λ _. ⌜ row (now (buf .exit)) ≡ over (row (now (buf .entry))) place (digits width value) ⌝ }
 {
     let mut n: usize = 0;
     while n < width {
-        let p = at + n;
+        let p = place + n;
         let i = p / 8;
         let b = (value >> (width - n - 1)) % 2;
         let x = with_bit(buf[i], p % 8, b);
@@ -114,13 +114,13 @@ pub fn put_all(buf: &mut [u8], widths: &[usize], values: &[u64])
     requires { ⌜ (length (now values) ≡ length (now widths)) × AllInside (now buf) 0 (now widths) ⌝ }
     ensures { λ _. ⌜ row (now (buf .exit)) ≡ over (row (now (buf .entry))) 0 (packed (now (widths .entry)) (now (values .entry))) ⌝ }
 {
-    let mut at: usize = 0;
+    let mut place: usize = 0;
     let mut i: usize = 0;
     while i < widths.len() {
         let w = widths[i];
         let v = values[i];
-        put(&mut *buf, at, w, v);
-        at += w;
+        put(&mut *buf, place, w, v);
+        place += w;
         i += 1;
     }
 }

@@ -2,14 +2,15 @@
 use mathlib.Core.Path.{_≡_, sym, ap, ap₂, _∙_}
 use mathlib.Core.Bool.{Bool, true, false}
 use mathlib.Core.List.{List, [], _∷_, _++_}
-use Prim.Native.Nat.{ℕ, _+_, _-_, _*_, _/_, _≤_}
+use Prim.Native.Nat.{ℕ, _+_, _-_, _*_, _^_, _≤_, _<_}
 use native.Mathlib.Omega.{arith}
 use native.Mathlib.Nat.{zero-add, add-assoc}
 use lib.ListN.{length, getD}
 use Rattle.clock.specs.Update.{hasSynthetic, hasReference, hasRate, hasError}
 use Rattle.clock.specs.declared.Request.{Request}
+use Rattle.fields.specs.Bits.{room}
 use Rattle.fields.specs.Record.{total, Words, AllInside}
-use Rattle.slip.specs.Layout.{timeWidth, flaggedWidth, asking, widths, slipLength, padding, layout}
+use Rattle.slip.specs.Layout.{headerWidth, timeWidth, rateWidth, errorWidth, flaggedWidth, asking, widths, slipLength, padding, layout, headerLength, fullWord, longest}
 
 pub flagged-le : (flagged : Bool) (width : ℕ) → flaggedWidth flagged width ≤ width
 flagged-le true width = omega arith
@@ -19,53 +20,54 @@ total-append : (a b : List ℕ) → total (a ++ b) ≡ total a + total b
 total-append [] b = sym (zero-add (total b))
 total-append (w ∷ a) b = ap (λ (n : ℕ). w + n) (total-append a b) ∙ sym (add-assoc w (total a) (total b))
 
--- zero bits to a whole byte
-whole : (p : ℕ) → p + (8 * ((p + 7) / 8) - p + 0) ≡ 8 * ((p + 7) / 8)
+-- padding fills the last byte
+whole : (p : ℕ) → p + (8 * room p - p + 0) ≡ 8 * room p
 whole p = omega arith
 
-room-bounds : (p : ℕ) → 16 ≤ p → p ≤ 213 → (2 ≤ (p + 7) / 8) × ((p + 7) / 8 ≤ 27) × (8 * ((p + 7) / 8) - p ≤ 7) × (p ≤ 8 * ((p + 7) / 8))
-room-bounds p l h = (omega arith, omega arith, omega arith, omega arith)
+room-mono : (p q : ℕ) → p ≤ q → room p ≤ room q
+room-mono p q h = omega arith
+
+room-bounds : (p : ℕ) → (8 * room p - p ≤ 7) × (p ≤ 8 * room p)
+room-bounds p = (omega arith, omega arith)
 
 module _ (u : Request) where
-  pub total-low : 16 ≤ total (widths u)
+  total-low : headerWidth ≤ total (widths u)
   unfolding widths
   total-low = omega arith
 
-  -- 'At most 213 bits'
-  pub total-high : total (widths u) ≤ 213
+  total-high : total (widths u) ≤ total (widths (asking fullWord))
   unfolding widths
   total-high =
       omega (
         arith,
         flagged-le (hasSynthetic u) (timeWidth (u .word)),
         flagged-le (hasReference u) (timeWidth (u .word)),
-        flagged-le (hasRate u) 11,
-        flagged-le (hasError u) 64,
+        flagged-le (hasRate u) rateWidth,
+        flagged-le (hasError u) errorWidth,
       )
 
-  pub length-low : 2 ≤ slipLength u
+  pub length-low : headerLength ≤ slipLength u
   unfolding slipLength
-  length-low = room-bounds (total (widths u)) total-low total-high .0
+  length-low = room-mono headerWidth (total (widths u)) total-low
 
-  -- 'so 27 bytes'
-  pub length-high : slipLength u ≤ 27
+  pub length-high : slipLength u ≤ longest
   unfolding slipLength
-  length-high = room-bounds (total (widths u)) total-low total-high .1
+  length-high = room-mono (total (widths u)) (total (widths (asking fullWord))) total-high
 
   padding-high : padding u ≤ 7
   unfolding padding slipLength
-  padding-high = room-bounds (total (widths u)) total-low total-high .2
+  padding-high = room-bounds (total (widths u)) .0
 
   pub total-inside : total (widths u) ≤ 8 * slipLength u
   unfolding slipLength
-  total-inside = room-bounds (total (widths u)) total-low total-high .3
+  total-inside = room-bounds (total (widths u)) .1
 
   -- a slip fills whole bytes
   pub total-layout : total (layout u) ≡ 8 * slipLength u
   unfolding layout padding slipLength
   total-layout = total-append (widths u) (padding u ∷ []) ∙ whole (total (widths u))
 
-  pub words-layout : Words (layout u)
+  words-layout : Words (layout u)
   unfolding layout widths
   words-layout = (
     omega arith,
@@ -73,18 +75,19 @@ module _ (u : Request) where
       omega (arith, flagged-le (hasSynthetic u) (timeWidth (u .word))),
       (
         omega (arith, flagged-le (hasReference u) (timeWidth (u .word))),
-        (omega (arith, flagged-le (hasRate u) 11), (flagged-le (hasError u) 64, (omega (arith, padding-high), tt))),
+        (omega (arith, flagged-le (hasRate u) rateWidth), (flagged-le (hasError u) errorWidth, (omega (arith, padding-high), tt))),
       ),
     ),
   )
 
+  -- few enough to be counted, in bits too
+  pub counted : slipLength u < 2 ^ 32
+  unfolding slipLength widths
+  counted = omega (arith, length-high)
+
   -- a slip lies in bytes that are as long as its header calls for
   pub layout-inside : (bytes : List ℕ) → slipLength u ≤ length bytes → AllInside bytes 0 (layout u)
-  layout-inside bytes h = (
-    omega (arith, total-layout),
-    words-layout,
-    omega (arith, total-layout, length-high),
-  )
+  layout-inside bytes h = (omega (arith, total-layout), words-layout, omega (arith, total-layout, counted))
 
 -- ---- the widths as the code has them
 

@@ -6,19 +6,18 @@ ghost use Prim.Native.Nat.{_^_, _<_, _≤_};
 ghost use lib.IntN.{pos, natAbs};
 ghost use lib.Dec.{T};
 ghost use lib.ListN.{length, drop};
-ghost use Rattle.clock.specs.Refusals.{first};
+ghost use Rattle.tables.specs.Tables.{first};
 ghost use Rattle.clock.specs.Clock.{InRange, Permitted};
 ghost use Rattle.clock.specs.Update.{valuesOutside, rateTooWide};
 ghost use Rattle.fields.specs.Record.{total, fields, AllInside};
 ghost use Rattle.slip.specs.Layout.{asking, timeWidth, rateField, rateOf, rateFieldEnd, flaggedWidth, widths, slipLength, layout};
-ghost use Rattle.slip.specs.Reading.{readingFront, readingSlip};
+ghost use Rattle.slip.specs.Reading.{refusedBy, readingFront, readingSlip};
 ghost use Rattle.slip.specs.Writing.{valuesOf, slipOf, writingTable, writing, outcome};
-ghost use Rattle.slip.specs.Parts.{refusedBy, judging, Small};
+ghost use Rattle.slip.specs.Parts.{judging, Small};
 use clock::Clock;
 use clock::Request;
-use clock::refusal::next;
-
-pub mod refusal;
+use tables::next;
+use tables::refusal;
 
 // A request that was read, and its refusal. A refused one is zeros.
 #[repr(C)]
@@ -34,15 +33,20 @@ pub struct Written {
     pub refusal: u8,
 }
 
-// The bits of the header, a rate and an error bound. The header is the word's top bits.
+// The bits of the header, of a time, a rate and an error bound. The header is the top of the word.
 const HEADER_BITS: usize = 16;
+
+const TIME_BITS: usize = 61;
 
 const RATE_BITS: usize = 11;
 
 const ERROR_BITS: usize = 64;
 
+// The bytes of the longest slip, which flags all four arguments.
+pub const MAX_LENGTH: usize = (HEADER_BITS + 2 * TIME_BITS + RATE_BITS + ERROR_BITS + 7) / 8;
+
 // The header's last bit, in the word.
-const HEADER_UNIT: u64 = 1 << 48;
+const HEADER_UNIT: u64 = 1 << (64 - HEADER_BITS);
 
 // The largest rate field, which stands for the widest rate: a rate is written as a + MAX_RATE.
 const RATE_FIELD_END: u64 = 2 * (Clock::MAX_RATE as u64);
@@ -86,35 +90,37 @@ fn read_front(bytes: &[u8]) -> Received
     ensures { λ r. ⌜ r ≡ readingFront (now (bytes .entry)) ⌝ }
 {
     if bytes.len() < HEADER_BITS / 8 {
-        return refused(refusal::SLIP_SHORT);
+        return refused(refusal::TOO_SHORT);
     }
     let header = fields::take(bytes, 0, HEADER_BITS);
     let asked = asking(header.value * HEADER_UNIT);
     if asked.word_wrong() {
-        return refused(clock::refusal::WORD_WRONG);
+        return refused(refusal::WORD_WRONG);
     }
     if bytes.len() < slip_length(asked.word) {
-        return refused(refusal::SLIP_SHORT);
+        return refused(refusal::TOO_SHORT);
     }
     let layout = layout_of(asked.word);
     let values = take_all(bytes, layout);
     judged(asked, values)
 }
 
-// The tests of header, synthetic, reference, rate, error and padding as they stand in a slip, and the request that they give.
+// The tests of the fields as they stand in a slip, and the request that they give. The values are those of header,
+// synthetic, reference, rate, error and padding.
 fn judged(asked: Request, values: [u64; 6]) -> Received
     requires { ⌜ Small values ⌝ }
     ensures { λ r. ⌜ r ≡ judging asked values ⌝ }
 {
     let rate = values[3];
-    let r = next(0, RATE_FIELD_END < rate, clock::refusal::RATE_OUTSIDE);
+    let r = next(0, RATE_FIELD_END < rate, refusal::RATE_OUTSIDE);
     let r = next(r, values[5] != 0, refusal::PADDING_SET);
     if r == 0 {
+        let flags = asked.flags();
         let request = Request {
             word: asked.word,
             synthetic: time_of(values[1]),
             reference: time_of(values[2]),
-            rate: rate_of(asked.has_rate(), rate),
+            rate: rate_of(flags.rate, rate),
             error: values[4],
         };
         Received {
@@ -144,7 +150,7 @@ fn rate_of(flagged: bool, value: u64) -> i32
     }
 }
 
-// A refused reading: word 0 and zero arguments.
+// A refused reading, which is zeros but for its number.
 fn refused(refusal: u8) -> Received
     ensures { λ r. ⌜ r ≡ refusedBy refusal ⌝ }
 {
@@ -165,11 +171,11 @@ fn asking(word: u64) -> Request
     }
 }
 
-// The bits of a time: 61 for every word of version 2.
+// The bits of a time: as many for every word of version 2.
 fn time_width(word: u64) -> usize
     ensures { λ r. ⌜ r ≡ timeWidth word ⌝ }
 {
-    61
+    TIME_BITS
 }
 
 // A field that isn't flagged has no bits.
@@ -185,10 +191,11 @@ fn widths_of(word: u64) -> [usize; 5]
 {
     let asked = asking(word);
     let time = time_width(word);
-    let synthetic = flagged_width(asked.has_synthetic(), time);
-    let reference = flagged_width(asked.has_reference(), time);
-    let rate = flagged_width(asked.has_rate(), RATE_BITS);
-    let error = flagged_width(asked.has_error(), ERROR_BITS);
+    let flags = asked.flags();
+    let synthetic = flagged_width(flags.synthetic, time);
+    let reference = flagged_width(flags.reference, time);
+    let rate = flagged_width(flags.rate, RATE_BITS);
+    let error = flagged_width(flags.error, ERROR_BITS);
     [HEADER_BITS, synthetic, reference, rate, error]
 }
 
@@ -224,9 +231,9 @@ fn writing_refusal(request: Request, size: usize) -> u8
     ensures { λ r. ⌜ r ≡ first (writingTable request size) ⌝ }
 {
     let length = slip_length(request.word);
-    let r = next(0, request.word_wrong(), clock::refusal::WORD_WRONG);
-    let r = next(r, request.values_outside(), clock::refusal::VALUE_OUTSIDE);
-    let r = next(r, request.rate_too_wide(), clock::refusal::RATE_OUTSIDE);
+    let r = next(0, request.word_wrong(), refusal::WORD_WRONG);
+    let r = next(r, request.values_outside(), refusal::VALUE_OUTSIDE);
+    let r = next(r, request.rate_too_wide(), refusal::RATE_OUTSIDE);
     next(r, size < length, refusal::BUFFER_SHORT)
 }
 
@@ -246,10 +253,11 @@ fn values_of(request: Request) -> [u64; 6]
     ensures { λ r. ⌜ r ≡ valuesOf request ⌝ }
 {
     let header = request.word / HEADER_UNIT;
-    let synthetic = time_value(request.has_synthetic(), request.synthetic);
-    let reference = time_value(request.has_reference(), request.reference);
-    let rate = rate_value(request.has_rate(), request.rate);
-    let error = error_value(request.has_error(), request.error);
+    let flags = request.flags();
+    let synthetic = time_value(flags.synthetic, request.synthetic);
+    let reference = time_value(flags.reference, request.reference);
+    let rate = rate_value(flags.rate, request.rate);
+    let error = error_value(flags.error, request.error);
     [header, synthetic, reference, rate, error, 0]
 }
 

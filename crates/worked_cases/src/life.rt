@@ -7,12 +7,12 @@ use clock::Request;
 // A life begins with a creation.
 pub fn create(word: u8, backstop: i64, now: i64) -> Created {
     time(now);
-    lines::write(b" create");
+    print::write(b" create");
     kind(word);
     argument(backstop != 0, b", backstop ", backstop);
     let life = Clock::create(word, backstop, now);
     match life {
-        Created::Made(_) => lines::write(b": created"),
+        Created::Made(_) => print::write(b": created"),
         Created::Refused(n) => refused(n),
     }
     life
@@ -20,7 +20,7 @@ pub fn create(word: u8, backstop: i64, now: i64) -> Created {
 
 // The life goes on as the update leaves it.
 pub fn update(life: Created, request: Request, now: i64) -> Created {
-    lines::write(b"; ");
+    print::write(b"; ");
     time(now);
     arguments(request);
     match life {
@@ -31,43 +31,43 @@ pub fn update(life: Created, request: Request, now: i64) -> Created {
             Created::Made(next)
         }
         Created::Refused(n) => {
-            lines::write(b": no clock");
+            print::write(b": no clock");
             Created::Refused(n)
         }
     }
 }
 
 pub fn read(life: Created, now: i64) {
-    lines::write(b"; ");
+    print::write(b"; ");
     time(now);
     match life {
         Created::Made(clock) => told(clock.read(now)),
-        Created::Refused(_) => lines::write(b" no clock"),
+        Created::Refused(_) => print::write(b" no clock"),
     }
 }
 
 fn told(reading: Reading) {
     if reading.refusal == 0 {
-        lines::write(b" reads ");
+        print::write(b" reads ");
     } else {
-        lines::write(b" read");
+        print::write(b" read");
         refused(reading.refusal);
-        lines::write(b", value ");
+        print::write(b", value ");
     }
-    lines::signed(reading.value);
+    print::signed(reading.value);
 }
 
 fn outcome(refusal: u8) {
     if refusal == 0 {
-        lines::write(b": taken");
+        print::write(b": taken");
     } else {
         refused(refusal);
     }
 }
 
 fn time(now: i64) {
-    lines::write(b"at ");
-    lines::signed(now);
+    print::write(b"at ");
+    print::signed(now);
 }
 
 fn kind(word: u8) {
@@ -79,7 +79,7 @@ fn kind(word: u8) {
 
 fn named(is: bool, name: &[u8]) {
     if is {
-        lines::write(name);
+        print::write(name);
     }
 }
 
@@ -98,25 +98,25 @@ fn arguments(request: Request) {
         b" reference ",
         reference,
     );
-    argument(word / Request::RATE % 2 == 1, b" rate ", lines::wide(rate));
+    argument(word / Request::RATE % 2 == 1, b" rate ", print::wide(rate));
     bound(word / Request::ERROR % 2 == 1, error);
 }
 
 fn argument(flagged: bool, name: &[u8], x: i64) {
     if flagged {
-        lines::write(name);
-        lines::signed(x);
+        print::write(name);
+        print::signed(x);
     }
 }
 
 fn bound(flagged: bool, error: u64) {
     if flagged {
-        lines::write(b" error ");
-        lines::number(error);
+        print::write(b" error ");
+        print::number(error);
     }
 }
 
 fn refused(refusal: u8) {
-    lines::write(b": refused ");
-    lines::number(refusal as u64);
+    print::write(b": refused ");
+    print::number(refusal as u64);
 }

@@ -8,17 +8,11 @@ use crate::life::update;
 use clock::Clock;
 use clock::Created;
 
-// Creation words.
+// The creation word without a bit.
 const PLAIN: u8 = 0;
 
-const AUTO_START: u8 = 32;
-
-const MONOTONIC: u8 = 128;
-
-const CONTINUOUS: u8 = 64;
-
 fn main() {
-    lines::legend();
+    print::legend();
     case_1();
     case_2();
     case_3();
@@ -49,7 +43,7 @@ fn clock_1() -> Created {
 fn case_1() {
     case(1);
     clock_1();
-    lines::end();
+    print::end();
 }
 
 fn case_2() {
@@ -58,24 +52,24 @@ fn case_2() {
     let c = update(c, requests::rate(-23), 1_000_100);
     read(c, 1_000_100);
     read(c, 2_000_100);
-    lines::end();
+    print::end();
 }
 
 fn case_3() {
     case(3);
-    let c = create(MONOTONIC + AUTO_START, 0, 0);
+    let c = create(Clock::MONOTONIC | Clock::AUTO_START, 0, 0);
     let c = update(c, requests::rate_at(100, 1_000_000_000), 2_000_000_000);
     read(c, 2_000_000_000);
-    lines::end();
+    print::end();
 }
 
 fn case_4() {
     case(4);
-    let c = create(MONOTONIC + AUTO_START, 0, 0);
+    let c = create(Clock::MONOTONIC | Clock::AUTO_START, 0, 0);
     let c = update(c, requests::rate_at(-100, 1_000_000_000), 2_000_000_000);
     let c = update(c, requests::rate_at(-100, 3_000_000_000), 2_000_000_000);
     read(c, 2_000_000_000);
-    lines::end();
+    print::end();
 }
 
 fn case_5() {
@@ -84,7 +78,7 @@ fn case_5() {
     let c = update(c, requests::set_at_with_rate(10, 10, 1), 9);
     read(c, 9);
     read(c, 10);
-    lines::end();
+    print::end();
 }
 
 fn case_6() {
@@ -94,14 +88,14 @@ fn case_6() {
     let c = update(c, requests::rate(-1), 1);
     let c = update(c, requests::rate(-1), 2);
     read(c, 3);
-    lines::end();
+    print::end();
 }
 
 fn case_7(rate: i32) {
     case(7);
     let c = clock_1();
     update(c, requests::rate(rate), 350);
-    lines::end();
+    print::end();
 }
 
 fn case_8() {
@@ -109,13 +103,13 @@ fn case_8() {
     let c = create(PLAIN, 1000, 0);
     let c = update(c, requests::set(999), 0);
     update(c, requests::set(1000), 0);
-    lines::end();
+    print::end();
 }
 
 fn case_9(now: i64) {
     case(9);
-    create(AUTO_START, 5, now);
-    lines::end();
+    create(Clock::AUTO_START, 5, now);
+    print::end();
 }
 
 fn case_10() {
@@ -124,59 +118,59 @@ fn case_10() {
     let c = update(c, requests::set(Clock::END), 0);
     read(c, 0);
     read(c, 1);
-    lines::end();
+    print::end();
 }
 
 fn case_11() {
     case(11);
-    let c = create(MONOTONIC, 10, 0);
+    let c = create(Clock::MONOTONIC, 10, 0);
     let c = update(c, requests::set(20), 0);
     read(c, 0);
     update(c, requests::set(5), 0);
-    lines::end();
+    print::end();
 }
 
 // Every legal creation word, not started and started; a clock with auto start is always started.
 fn case_13() {
     reference_and_error(PLAIN);
     reference_and_error_started(PLAIN);
-    reference_and_error(AUTO_START);
-    reference_and_error(MONOTONIC);
-    reference_and_error_started(MONOTONIC);
-    reference_and_error(MONOTONIC + AUTO_START);
-    reference_and_error(MONOTONIC + CONTINUOUS);
-    reference_and_error_started(MONOTONIC + CONTINUOUS);
-    reference_and_error(MONOTONIC + CONTINUOUS + AUTO_START);
-    reference_and_rate_started(MONOTONIC + CONTINUOUS);
-    reference_and_rate(MONOTONIC + CONTINUOUS + AUTO_START);
+    reference_and_error(Clock::AUTO_START);
+    reference_and_error(Clock::MONOTONIC);
+    reference_and_error_started(Clock::MONOTONIC);
+    reference_and_error(Clock::MONOTONIC | Clock::AUTO_START);
+    reference_and_error(Clock::MONOTONIC | Clock::CONTINUOUS);
+    reference_and_error_started(Clock::MONOTONIC | Clock::CONTINUOUS);
+    reference_and_error(Clock::MONOTONIC | Clock::CONTINUOUS | Clock::AUTO_START);
+    reference_and_rate_started(Clock::MONOTONIC | Clock::CONTINUOUS);
+    reference_and_rate(Clock::MONOTONIC | Clock::CONTINUOUS | Clock::AUTO_START);
 }
 
 fn reference_and_error(word: u8) {
     case(13);
     let c = create(word, 0, 0);
     update(c, requests::error_at(7, 30), 20);
-    lines::end();
+    print::end();
 }
 
 fn reference_and_error_started(word: u8) {
     case(13);
     let c = started(word);
     update(c, requests::error_at(7, 30), 20);
-    lines::end();
+    print::end();
 }
 
 fn reference_and_rate(word: u8) {
     case(13);
     let c = create(word, 0, 0);
     update(c, requests::rate_at(1, 30), 20);
-    lines::end();
+    print::end();
 }
 
 fn reference_and_rate_started(word: u8) {
     case(13);
     let c = started(word);
     update(c, requests::rate_at(1, 30), 20);
-    lines::end();
+    print::end();
 }
 
 fn started(word: u8) -> Created {
@@ -187,25 +181,25 @@ fn started(word: u8) -> Created {
 // Set to one less than the present reading, and to the reading.
 fn case_14() {
     case(14);
-    let c = create(MONOTONIC, 10, 0);
+    let c = create(Clock::MONOTONIC, 10, 0);
     let c = update(c, requests::set(20), 0);
     read(c, 5);
     let c = update(c, requests::set(24), 5);
     let c = update(c, requests::set(25), 5);
     read(c, 5);
-    lines::end();
+    print::end();
     case(14);
-    let c = create(MONOTONIC + AUTO_START, 0, 0);
+    let c = create(Clock::MONOTONIC | Clock::AUTO_START, 0, 0);
     read(c, 5);
     let c = update(c, requests::set(4), 5);
     let c = update(c, requests::set(5), 5);
     read(c, 5);
-    lines::end();
+    print::end();
 }
 
 // A line's head, as 'case 1: '.
 fn case(n: u64) {
-    lines::write(b"case ");
-    lines::number(n);
-    lines::write(b": ");
+    print::write(b"case ");
+    print::number(n);
+    print::write(b": ");
 }

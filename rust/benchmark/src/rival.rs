@@ -191,17 +191,17 @@ fn updated(clock: &Clock, word: u64, asked: &Asked, now: i128) -> Result<Clock, 
     Ok(effect(clock, asked, now, new))
 }
 
-/// The table of 01, 'The update word and its effect'; none where the line stays. A rate alone keeps the old line's
-/// value where the line turns, and the old rate is 0 before the start.
+/// The table of 01, 'The update word and its effect'; none where the line stays. The point is the paper's P, where a
+/// rate alone keeps the old line's value; the old rate is 0 before the start.
 fn new_line(clock: &Clock, asked: &Asked, now: i128) -> Option<Line> {
-    let reference = asked.reference.unwrap_or(now);
+    let point = asked.reference.unwrap_or(now);
     let (synthetic, rate) = match (asked.synthetic, asked.rate) {
         (Some(synthetic), None) => (synthetic, if clock.started { clock.line.rate } else { 0 }),
-        (None, Some(rate)) => (clock.line.value(reference), rate),
+        (None, Some(rate)) => (clock.line.value(point), rate),
         (Some(synthetic), Some(rate)) => (synthetic, rate),
         (None, None) => return None,
     };
-    Some(Line { reference, synthetic, rate })
+    Some(Line { reference: point, synthetic, rate })
 }
 
 /// What 01 tells below that table.

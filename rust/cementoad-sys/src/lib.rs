@@ -2,7 +2,8 @@
 //! puts Rust's own idioms around it.
 //!
 //! Call [`check_archive`] before anything else. Each function takes any numbers and ends; only the pointers of the two
-//! slip functions ask for care, which [`read_slip`] and [`write_slip`] take. Bytes between the fields of a struct may hold anything.
+//! slip functions ask for care, which [`read_slip`] and [`write_slip`] take. Bytes between the fields of a struct may
+//! hold anything.
 #![deny(missing_docs)]
 
 mod abi;
@@ -55,12 +56,11 @@ pub const NO_REFUSAL: u8 = 0;
 /// The refusal, not of the paper and checked before all others, of what fails the test that is told at [`Clock`].
 pub const NOT_A_CLOCK: u8 = 255;
 
-/// A line through the point (reference, synthetic) that gains 1,000,000 + rate millionths of a nanosecond in each
-/// nanosecond.
+/// A line through (reference, synthetic) that gains 1,000,000 + rate millionths of a nanosecond in each nanosecond.
 #[repr(C)]
 #[derive(Clone, Copy, Debug, Default, PartialEq, Eq, Hash)]
 pub struct Line {
-    /// The reference time of the point, in nanoseconds.
+    /// The reference time at which the line begins, in nanoseconds.
     pub reference: i64,
     /// The line's value there, in nanoseconds.
     pub synthetic: i64,

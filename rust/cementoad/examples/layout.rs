@@ -1,4 +1,4 @@
-//! Prints what is declared for Rust: each struct and field with its place and size, each constant, and each refusal
+//! Prints what is declared for Rust: each struct and field with its offset and size, each constant, and each refusal
 //! with its public name. `examples/c/layout.c` prints the same lines from the C header.
 
 use std::mem::offset_of;

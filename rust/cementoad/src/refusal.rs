@@ -61,12 +61,12 @@ macro_rules! refusals {
 refusals! {
     (1, NowOutside, "NOW_OUTSIDE", "now is outside 0..END");
     (2, NowEarly, "NOW_EARLY", "now is before the latest accepted update or creation");
-    (3, WordWrong, "WORD_WRONG", "a word has another version or an unknown bit");
+    (3, WordWrong, "WORD_WRONG", "a version is not known, or a bit is set that must be zero");
     (4, NothingFlagged, "NOTHING_FLAGGED", "nothing is flagged");
-    (5, ValueOutside, "VALUE_OUTSIDE", "a flagged synthetic or reference is outside 0..END");
+    (5, ValueOutside, "VALUE_OUTSIDE", "a time or a value is outside its range");
     (6, RateOutside, "RATE_OUTSIDE", "a flagged rate is outside -1000..1000");
     (7, ReferenceAlone, "REFERENCE_ALONE", "reference is flagged, but neither synthetic nor rate");
-    (8, NotStarted, "NOT_STARTED", "the clock is not started and synthetic is not flagged");
+    (8, NotStarted, "NOT_STARTED", "the clock isn't started, for what only a started one takes");
     (9, ContinuousReference, "CONTINUOUS_REFERENCE", "the clock is continuous and reference is flagged");
     (10, ContinuousSet, "CONTINUOUS_SET", "the clock is continuous and started, and synthetic is flagged");
     (11, MonotonicSetAndRate, "MONOTONIC_SET_AND_RATE",
@@ -78,10 +78,10 @@ refusals! {
     (15, ContinuousNotMonotonic, "CONTINUOUS_NOT_MONOTONIC", "a new clock is to be continuous without being monotonic");
     (16, BackstopOutside, "BACKSTOP_OUTSIDE", "a new clock's backstop is outside 0..END");
     (17, BackstopAhead, "BACKSTOP_AHEAD", "a new clock is to start at once and its backstop is above now");
-    (18, SlipShort, "SLIP_SHORT", "a slip has fewer than 2 bytes, or fewer than its header calls for");
+    (18, TooShort, "TOO_SHORT", "there are fewer bytes than what is read calls for");
     (19, PaddingSet, "PADDING_SET", "a padding bit of a slip is set");
-    (20, BytesLeftOver, "BYTES_LEFT_OVER", "bytes are left over behind a slip");
-    (21, BufferShort, "BUFFER_SHORT", "the buffer is shorter than the slip");
+    (20, BytesLeftOver, "BYTES_LEFT_OVER", "bytes are left over after what is read");
+    (21, BufferShort, "BUFFER_SHORT", "the buffer is shorter than what is written");
 }
 
 impl Refusal {

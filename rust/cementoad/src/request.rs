@@ -114,7 +114,7 @@ impl Request {
     /// use cementoad::{Refusal, Request};
     ///
     /// assert_eq!(Request::from_slip(&[0x08, 0x80, 0x7a, 0x20]), Ok(Request::new().rate(-23)));
-    /// assert_eq!(Request::from_slip(&[0x08, 0x80, 0x7a]), Err(Refusal::SlipShort));
+    /// assert_eq!(Request::from_slip(&[0x08, 0x80, 0x7a]), Err(Refusal::TooShort));
     /// assert_eq!(Request::from_slip(&[0x08, 0x80, 0x7a, 0x21]), Err(Refusal::PaddingSet));
     /// assert_eq!(Request::from_slip(&[0x08, 0x80, 0x7a, 0x20, 0x00]), Err(Refusal::BytesLeftOver));
     /// ```

@@ -22,7 +22,7 @@ const NAMES: [&str; 21] = [
     "CONTINUOUS_NOT_MONOTONIC",
     "BACKSTOP_OUTSIDE",
     "BACKSTOP_AHEAD",
-    "SLIP_SHORT",
+    "TOO_SHORT",
     "PADDING_SET",
     "BYTES_LEFT_OVER",
     "BUFFER_SHORT",

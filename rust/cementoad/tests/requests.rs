@@ -4,12 +4,12 @@ use std::hash::{DefaultHasher, Hash, Hasher};
 
 use cementoad::{Clock, Refusal, Request, ffi};
 
-/// A request that has numbers in all places, whatever its word flags.
+/// A request that has a number for each argument, whatever its word flags.
 fn with_word(word: u64) -> ffi::Request {
     ffi::Request { word, synthetic: 1500, reference: 100, rate: -23, error: 40 }
 }
 
-/// Each argument's flag, and the numbers of `with_word` with another one in its place.
+/// Each argument's flag, and the numbers of `with_word` with another one for it.
 fn others(word: u64) -> [(u64, ffi::Request); 4] {
     let one = with_word(word);
     [

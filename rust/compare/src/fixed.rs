@@ -1,6 +1,6 @@
 //! Lists written from 01: the worked cases, each refusal just inside and just outside, the orders of checks that can be
-//! seen, effects that are easily got wrong, and slips. Each call that is refused has its number beside it, and some that
-//! are accepted are told by their whole answer.
+//! seen, effects that are easily got wrong, and slips. Each call that is refused has its number beside it, and some
+//! that are accepted are told by their whole answer.
 
 use cementoad_sys::*;
 
@@ -302,7 +302,8 @@ fn slips_written() -> Lists {
     }
 }
 
-/// Every creation word; every version and zero bit of an update word and of a slip's header; every length of a slip.
+/// Every creation word; every version of an update word and of a slip's header, and every bit there that must be zero;
+/// every length of a slip.
 fn each_bit() -> Lists {
     let step = |call: Call, refusal| Step { refusal, ..call.into() };
     let created = (0..=255).map(|word| match word {
@@ -311,10 +312,10 @@ fn each_bit() -> Lists {
     });
     let good = |version| if version == 2 { 0 } else { 3 };
     let versions = (0..64).map(|version| step(Update(word(version << 58 | ERROR), 10), good(version)));
-    let zeros = (0..54).map(|bit| step(Update(word(VERSION_2 | ERROR | 1 << bit), 10), 3));
-    let updated = [Create(AUTO_START, 0, 0).into()].into_iter().chain(versions).chain(zeros);
+    let zero_bits = (0..54).map(|bit| step(Update(word(VERSION_2 | ERROR | 1 << bit), 10), 3));
+    let updated = [Create(AUTO_START, 0, 0).into()].into_iter().chain(versions).chain(zero_bits);
     let headers = (0..64).map(|version| step(slip(&[(version << 2) as u8, 0]), good(version)));
-    let header_zeros = (0..6).map(|bit| step(slip(&[8, 1 << bit]), 3));
+    let header_zero_bits = (0..6).map(|bit| step(slip(&[8, 1 << bit]), 3));
     let lengths = [2, 10, 4, 12, 10, 18, 11, 19, 10, 18, 11, 19, 18, 26, 19, 27].into_iter().zip(0..);
     let measured = lengths.flat_map(|(length, flags)| {
         let words = [VERSION_2 | flags << 54, flags << 54, flags << 54 | (ERROR - 1)];
@@ -323,7 +324,7 @@ fn each_bit() -> Lists {
     vec![
         ("create 3 and 15", created.collect()),
         ("update 3", updated.collect()),
-        ("slip 3", headers.chain(header_zeros).collect()),
+        ("slip 3", headers.chain(header_zero_bits).collect()),
         ("slip lengths", measured.collect()),
     ]
 }

@@ -93,7 +93,7 @@ fn flags(rng: &mut Rng, clock: &Clock) -> u64 {
     }
 }
 
-/// Any flags, most with another version or a bit that is to be zero.
+/// Any flags, most with another version or a bit set that must be zero.
 fn word(rng: &mut Rng) -> u64 {
     let (flags, any) = (rng.below(16) << 54, rng.any());
     let (version, stray) = (rng.below(64) << 58, 1 << rng.below(54));

@@ -33,7 +33,7 @@ pub fn is_clock(clock: &Clock) -> bool {
     PARTS.iter().all(|(_, passes)| passes(clock))
 }
 
-/// The parts that a clock fails, by their places in the table.
+/// The parts that a clock fails, by their numbers in the table.
 pub fn failing(clock: &Clock) -> Vec<usize> {
     (0..PARTS.len()).filter(|&part| !PARTS[part].1(clock)).collect()
 }

@@ -176,11 +176,11 @@ impl Met {
         let taken = self.refusal == NO_REFUSAL;
         let flags = request.word & (SYNTHETIC | REFERENCE | RATE);
         self.row("synthetic", taken && flags == SYNTHETIC);
-        self.row("synthetic at P", taken && flags == SYNTHETIC | REFERENCE);
+        self.row("synthetic at a reference", taken && flags == SYNTHETIC | REFERENCE);
         self.row("rate only", taken && flags == RATE);
-        self.row("rate only at P", taken && flags == RATE | REFERENCE);
+        self.row("rate only at a reference", taken && flags == RATE | REFERENCE);
         self.row("synthetic and rate", taken && flags == SYNTHETIC | RATE);
-        self.row("synthetic and rate at P", taken && flags == SYNTHETIC | RATE | REFERENCE);
+        self.row("synthetic and rate at a reference", taken && flags == SYNTHETIC | RATE | REFERENCE);
         self.row("neither", taken && flags == 0);
         self.row("a start", taken && clock.started == 0);
         self.row("a generation of 0", taken && new.is_some() && clock.generation == u32::MAX);

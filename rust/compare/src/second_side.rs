@@ -19,8 +19,8 @@ pub fn answer(call: &Call, clock: Clock) -> Answer {
             Answer::Read(Reading { refusal, value: narrow(value, i64::MAX) })
         }
         (&Call::Details(now), held) => {
-            let nothing = (NOT_A_CLOCK, second::Details::default());
-            let (refusal, details) = held.map_or(nothing, |held| second::details(&held, now));
+            let zeros = second::Details::default();
+            let (refusal, details) = held.map_or((NOT_A_CLOCK, zeros), |held| second::details(&held, now));
             Answer::Detailed(Detailed { refusal, details: narrow_details(&details) })
         }
         (Call::Update(request, now), Some(held)) => {

@@ -12,7 +12,7 @@ pub const MONOTONIC: u8 = 128;
 pub const CONTINUOUS: u8 = 64;
 pub const AUTO_START: u8 = 32;
 
-// The update word, from its top: six bits of version, four flags, 54 bits that stay zero.
+// The update word, from its top: six bits of version, four flags, 54 bits that must be zero.
 pub const VERSION: u64 = 2;
 pub const SYNTHETIC: u64 = 1 << 57;
 pub const REFERENCE: u64 = 1 << 56;
@@ -41,7 +41,7 @@ pub struct Clock {
     pub generation: i128,
 }
 
-/// The details record.
+/// What a clock tells of itself at a time.
 #[derive(Clone, Copy, Debug, Default, PartialEq, Eq)]
 pub struct Details {
     pub started: bool,
@@ -132,14 +132,14 @@ pub fn read(clock: &Clock, now: i64) -> (u8, i128) {
     (refusal, if refusal == 0 { reading } else { 0 })
 }
 
-/// The clock's details (01, Details). Refused, it gives a record of zeros.
+/// The clock's details (01, Details). Refused, it gives zeros.
 pub fn details(clock: &Clock, now: i64) -> (u8, Details) {
     let now = i128::from(now);
     let refusal = first(&[(1, outside(now)), (2, now < clock.latest)]);
     if refusal != 0 {
         return (refusal, Details::default());
     }
-    let record = Details {
+    let details = Details {
         started: clock.line.is_some(),
         line: clock.line.unwrap_or_default(),
         error: clock.error,
@@ -149,7 +149,7 @@ pub fn details(clock: &Clock, now: i64) -> (u8, Details) {
         backstop: clock.backstop,
         now,
     };
-    (0, record)
+    (0, details)
 }
 
 /// The table of new lines (01, The update word and its effect); none where the line stays. A rate alone gives none
@@ -167,7 +167,7 @@ pub fn new_line(clock: &Clock, request: &Request, now: i128) -> Option<Line> {
     }
 }
 
-/// Rule 3: another version, or a bit set that stays zero.
+/// Rule 3: a version that is not known, or a bit set that must be zero.
 pub(crate) fn bad_word(word: u64) -> bool {
     word >> 58 != VERSION || word & ZERO_BITS != 0
 }

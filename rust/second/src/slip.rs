@@ -37,22 +37,22 @@ impl Reader<'_> {
     }
 }
 
-/// Reads a slip: word and arguments, those without a flag being 0. Refused, it gives a request of zeros.
+/// Reads a slip: word and arguments, those without a flag being 0. Refused, it gives zeros.
 pub fn read_slip(bytes: &[u8]) -> (u8, Request) {
-    let nothing = Request::default();
+    let zeros = Request::default();
     if bytes.len() < 2 {
-        return (18, nothing);
+        return (18, zeros);
     }
     let mut reader = Reader { bytes, place: 0 };
     let word = reader.take(HEADER) << 48;
     if bad_word(word) {
-        return (3, nothing);
+        return (3, zeros);
     }
     let length = slip_length(word);
     if bytes.len() < length {
-        return (18, nothing);
+        return (18, zeros);
     }
-    let mut request = Request { word, ..nothing };
+    let mut request = Request { word, ..zeros };
     for (flag, width) in FIELDS {
         if request.has(flag) {
             set_field(&mut request, flag, reader.take(width));
@@ -64,7 +64,7 @@ pub fn read_slip(bytes: &[u8]) -> (u8, Request) {
         (19, reader.take(padding) != 0),
         (20, bytes.len() > length),
     ]);
-    (refusal, if refusal == 0 { request } else { nothing })
+    (refusal, if refusal == 0 { request } else { zeros })
 }
 
 /// Writes a slip into the buffer's first bytes and gives its length. Refused, it writes nothing and gives 0.

@@ -9,28 +9,32 @@ use Rattle.fields.proofs.get.Statement.{statement}
 use Rattle.fields.proofs.get.Tie as tie
 
 abbrev Inv-loop : tie.InvT-loop
-Inv-loop bytes at width value₀ n₀ value n = (n ≤ width) × (value ≡ field bytes at n)
+Inv-loop bytes place width value₀ n₀ value n = (n ≤ width) × (value ≡ field bytes place n)
 
 abbrev μ-loop : tie.MeasureT-loop
-μ-loop bytes at width value₀ n₀ value n = width - n
+μ-loop bytes place width value₀ n₀ value n = width - n
+
+-- ---- the steps back from the loop, and from the end of a turn
+
+abbrev start : tie.At-loop Inv-loop μ-loop → tie.Start Inv-loop μ-loop
+start c =
+    let bytes = c .before in
+    bytes .before
+
+abbrev loop : tie.After-bit-of Inv-loop μ-loop → tie.At-loop Inv-loop μ-loop
+loop c =
+    let bytes = c .before in
+    let turn = bytes .before in
+    turn .before
 
 loop-holds : tie.Need-loop-holds Inv-loop μ-loop
-loop-holds c = (omega arith, sym (field-none (c .before .args .bytes .now) (c .before .args .at)))
+loop-holds c = (omega arith, sym (field-none (c .before .args .bytes .now) (c .before .args .place)))
 
-add-p : tie.Need-add-p Inv-loop μ-loop
-add-p c = omega arith
-
-shared-slice-read-bit-of : tie.Need-shared-slice-read-bit-of Inv-loop μ-loop
-shared-slice-read-bit-of c = omega arith
-
-bit-of-requires : tie.Need-bit-of-requires Inv-loop μ-loop
-bit-of-requires c κs = omega arith
-
-short : (c : tie.After-bit-of Inv-loop μ-loop) → c .before .before .before .loop .value < 2 ^ 63
+short : (c : tie.After-bit-of Inv-loop μ-loop) → loop c .loop .value < 2 ^ 63
 short c =
-    let a = c .before .before .before .before .before .args in
-    let l = c .before .before .before .loop in
-    rw (l .inv .1) (lt-of-lt-of-le (field-lt (a .bytes .now) (a .at) (l .n) (omega arith)) (pow-mono {i = l .n} {j = 63} (omega arith)))
+    let a = start (loop c) .args in
+    let l = loop c .loop in
+    rw (l .inv .1) (lt-of-lt-of-le (field-lt (a .bytes .now) (a .place) (l .n) (omega arith)) (pow-mono {i = l .n} {j = 63} (omega arith)))
 
 mul-value : tie.Need-mul-value Inv-loop μ-loop
 mul-value c = omega (arith, short c, c .bit-of .ensures)
@@ -38,25 +42,19 @@ mul-value c = omega (arith, short c, c .bit-of .ensures)
 add-value : tie.Need-add-value Inv-loop μ-loop
 add-value c = omega (arith, short c, c .bit-of .ensures)
 
-add-n : tie.Need-add-n Inv-loop μ-loop
-add-n c = omega arith
-
-loop-less : tie.Need-loop-less Inv-loop μ-loop
-loop-less c = omega arith
-
 loop-again : tie.Need-loop-again Inv-loop μ-loop
 loop-again c =
-    let a = c .before .before .before .before .before .args in
-    let l = c .before .before .before .loop in (
+    let a = start (loop c) .args in
+    let l = loop c .loop in (
       omega arith,
       rw (c .bit-of .ensures, l .inv .1)
-          (sym (field-step (a .bytes .now) (a .at) (l .n) 1 (omega arith) (omega arith) (omega arith))),
+          (sym (field-step (a .bytes .now) (a .place) (l .n) 1 (omega arith) (omega arith) (omega arith))),
     )
 
 returns : tie.Need-returns Inv-loop μ-loop
 returns c =
-    let a = c .before .before .before .args in
-    c .before .loop .inv .1 ∙ ap (field (a .bytes .now) (a .at)) (omega arith)
+    let a = start (c .before) .args in
+    c .before .loop .inv .1 ∙ ap (field (a .bytes .now) (a .place)) (omega arith)
 
 pub get-spec : {M : Type 1} → statement M
 get-spec =
@@ -65,12 +63,12 @@ get-spec =
     Inv-loop
     μ-loop
     loop-holds
-    add-p
-    shared-slice-read-bit-of
-    bit-of-requires
+    (λ c. omega arith)
+    (λ c. omega arith)
+    (λ c κs. omega arith)
     mul-value
     add-value
-    add-n
-    loop-less
+    (λ c. omega arith)
+    (λ c. omega arith)
     loop-again
     returns)

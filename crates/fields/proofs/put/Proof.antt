@@ -13,67 +13,52 @@ use Rattle.fields.proofs.put.Statement.{statement}
 use Rattle.fields.proofs.put.Tie as tie
 
 abbrev Inv-loop : tie.InvT-loop
-Inv-loop buf₀ at width value n₀ buf n =
-    (n ≤ width) × (length buf ≡ length buf₀) × (row buf ≡ over (row buf₀) at (digits n (value / 2 ^ (width - n))))
+Inv-loop buf₀ place width value n₀ buf n =
+    (n ≤ width) × (length buf ≡ length buf₀) × (row buf ≡ over (row buf₀) place (digits n (value / 2 ^ (width - n))))
 
 abbrev μ-loop : tie.MeasureT-loop
-μ-loop buf₀ at width value n₀ buf n = width - n
+μ-loop buf₀ place width value n₀ buf n = width - n
 
-none : (r : List Bool) (at v : ℕ) → over r at (digits 0 v) ≡ r
+-- ---- the steps back from the loop, and from the end of a turn
+
+abbrev start : tie.At-loop Inv-loop μ-loop → tie.Start Inv-loop μ-loop
+start c =
+    let buf = c .before in
+    buf .before
+
+abbrev loop : tie.After-with-bit Inv-loop μ-loop → tie.At-loop Inv-loop μ-loop
+loop c =
+    let buf = c .before in
+    let turn = buf .before in
+    turn .before
+
+-- ---- the field before the first turn and after the last
+
+none : (r : List Bool) (place v : ℕ) → over r place (digits 0 v) ≡ r
 unfolding digits
-none r at v = over-none r at
+none r place v = over-none r place
 
 all : (w n v : ℕ) → n ≡ w → digits n (v / 2 ^ (w - n)) ≡ digits w v
 all w n v e = rw (e, sub-self w, div-one v)
 
 loop-holds : tie.Need-loop-holds Inv-loop μ-loop
-loop-holds c = (omega arith, omega arith, sym (none (row (c .before .args .buf .now)) (c .before .args .at) _))
-
-add-p : tie.Need-add-p Inv-loop μ-loop
-add-p c = omega arith
-
-sub-b : tie.Need-sub-b Inv-loop μ-loop
-sub-b c = omega arith
-
-sub-b-2 : tie.Need-sub-b-2 Inv-loop μ-loop
-sub-b-2 c = omega arith
-
-shr-b : tie.Need-shr-b Inv-loop μ-loop
-shr-b c = omega arith
-
-slice-read-with-bit : tie.Need-slice-read-with-bit Inv-loop μ-loop
-slice-read-with-bit c = omega arith
-
-with-bit-requires : tie.Need-with-bit-requires Inv-loop μ-loop
-with-bit-requires c κs = omega arith
-
-slice-write-buf : tie.Need-slice-write-buf Inv-loop μ-loop
-slice-write-buf c = omega arith
-
-add-n : tie.Need-add-n Inv-loop μ-loop
-add-n c = omega arith
-
-loop-less : tie.Need-loop-less Inv-loop μ-loop
-loop-less c = omega arith
+loop-holds c = (omega arith, omega arith, sym (none (row (c .before .args .buf .now)) (c .before .args .place) _))
 
 loop-again : tie.Need-loop-again Inv-loop μ-loop
 loop-again c =
-    let a = c .before .before .before .before .before .args in
-    let l = c .before .before .before .loop in (
+    let a = start (loop c) .args in
+    let l = loop c .loop in (
       omega arith,
       simp length-set (omega arith),
-      put-step (a .buf .now) (l .buf) (a .at) (l .n) 1 (a .width) (a .value) (c .with-bit .result) (l .inv .1) (l .inv .2)
+      put-step (a .buf .now) (l .buf) (a .place) (l .n) 1 (a .width) (a .value) (c .with-bit .result) (l .inv .1) (l .inv .2)
           (omega arith) (omega arith) (omega arith) (omega arith) (c .with-bit .ensures),
     )
 
-same-length : tie.Need-same-length Inv-loop μ-loop
-same-length c = omega arith
-
 returns : tie.Need-returns Inv-loop μ-loop
 returns c =
-    let a = c .before .before .before .args in
+    let a = start (c .before) .args in
     c .before .loop .inv .2
-    ∙ ap (over (row (a .buf .now)) (a .at)) (all (a .width) (c .before .loop .n) (a .value) (omega arith))
+    ∙ ap (over (row (a .buf .now)) (a .place)) (all (a .width) (c .before .loop .n) (a .value) (omega arith))
 
 pub put-spec : {M : Type 1} → statement M
 put-spec =
@@ -82,15 +67,15 @@ put-spec =
     Inv-loop
     μ-loop
     loop-holds
-    add-p
-    sub-b
-    sub-b-2
-    shr-b
-    slice-read-with-bit
-    with-bit-requires
-    slice-write-buf
-    add-n
-    loop-less
+    (λ c. omega arith)
+    (λ c. omega arith)
+    (λ c. omega arith)
+    (λ c. omega arith)
+    (λ c. omega arith)
+    (λ c κs. omega arith)
+    (λ c. omega arith)
+    (λ c. omega arith)
+    (λ c. omega arith)
     loop-again
-    same-length
+    (λ c. omega arith)
     returns)

@@ -13,71 +13,76 @@ use Rattle.fields.proofs.put_all.Statement.{statement}
 use Rattle.fields.proofs.put_all.Tie as tie
 
 abbrev Inv-loop : tie.InvT-loop
-Inv-loop buf₀ widths values at₀ i₀ buf at i =
-    (i ≤ length widths) × (at ≡ total (take i widths)) × (length buf ≡ length buf₀)
+Inv-loop buf₀ widths values place₀ i₀ buf place i =
+    (i ≤ length widths) × (place ≡ total (take i widths)) × (length buf ≡ length buf₀)
     × (row buf ≡ over (row buf₀) 0 (packed (take i widths) (take i values)))
 
 abbrev μ-loop : tie.MeasureT-loop
-μ-loop buf₀ widths values at₀ i₀ buf at i = length widths - i
+μ-loop buf₀ widths values place₀ i₀ buf place i = length widths - i
+
+-- ---- the steps back from the loop, and from the end of a turn
+
+abbrev start : tie.At-loop Inv-loop μ-loop → tie.Start Inv-loop μ-loop
+start c =
+    let values = c .before in
+    let widths = values .before in
+    let buf = widths .before in
+    buf .before
+
+abbrev loop : tie.After-put-arg Inv-loop μ-loop → tie.At-loop Inv-loop μ-loop
+loop c =
+    let value = c .before in
+    let width = value .before in
+    let turn = width .before in
+    turn .before
+
+abbrev put : tie.After-slice-known2 Inv-loop μ-loop → tie.After-put Inv-loop μ-loop
+put c =
+    let after = c .before in
+    after .before
 
 loop-holds : tie.Need-loop-holds Inv-loop μ-loop
 loop-holds c =
-    let a = c .before .before .before .args in
+    let widths = c .before in
+    let buf = widths .before in
+    let a = buf .before .args in
     (omega arith, omega arith, omega arith, packed-none (a .widths .now) (a .values .now) (row (a .buf .now)))
-
-mul-w : tie.Need-mul-w Inv-loop μ-loop
-mul-w c = search needs
-
-shared-slice-read-w : tie.Need-shared-slice-read-w Inv-loop μ-loop
-shared-slice-read-w c = omega arith
-
-mul-v : tie.Need-mul-v Inv-loop μ-loop
-mul-v c = search needs
-
-shared-slice-read-v : tie.Need-shared-slice-read-v Inv-loop μ-loop
-shared-slice-read-v c = omega arith
 
 put-requires : tie.Need-put-requires Inv-loop μ-loop
 put-requires c κs =
-    let s = c .before .before .before .before .before .before .before .before in
-    let l = c .before .before .before .before .loop in
+    let s = start (loop c) in
+    let l = loop c .loop in
     let ws = s .args .widths .now in
     let m = total-more ws (l .i) (omega arith) in
     let k = total-le ws (l .i + 1) in
     (omega (arith, m, k, s .pre .1 .0), words-at ws (l .i) (s .pre .1 .1), omega (arith, m, k, s .pre .1 .2))
 
-add-at : tie.Need-add-at Inv-loop μ-loop
-add-at c =
-    let s = c .before .before .before .before .before .before .before .before .before .before .before in
-    let l = c .before .before .before .before .before .before .before .loop in
+add-place : tie.Need-add-place Inv-loop μ-loop
+add-place c =
+    let t = loop (put c .before) in
+    let s = start t in
+    let l = t .loop in
     let ws = s .args .widths .now in
     omega (arith, total-more ws (l .i) (omega arith), total-le ws (l .i + 1), s .pre .1 .2)
 
-add-i : tie.Need-add-i Inv-loop μ-loop
-add-i c = omega arith
-
-loop-less : tie.Need-loop-less Inv-loop μ-loop
-loop-less c = omega arith
-
 loop-again : tie.Need-loop-again Inv-loop μ-loop
 loop-again c =
-    let s = c .before .before .before .before .before .before .before .before .before .before .before in
-    let l = c .before .before .before .before .before .before .before .loop in
+    let p = put c in
+    let t = loop (p .before) in
+    let s = start t in
+    let l = t .loop in
     let ws = s .args .widths .now in
     let vs = s .args .values .now in (
       omega arith,
       omega (arith, total-more ws (l .i) (omega arith)),
-      omega (arith, c .before .before .put .kept .0),
-      put-all-step (row (s .args .buf .now)) (row (l .buf)) (row (c .before .before .put .last .0)) ws vs (l .i) (l .at) (omega arith) (omega arith) (l .inv .1)
-          (omega (arith, length-row (s .args .buf .now), s .pre .1 .0)) (l .inv .3) (c .before .before .put .ensures),
+      omega (arith, p .put .kept .0),
+      put-all-step (row (s .args .buf .now)) (row (l .buf)) (row (p .put .last .0)) ws vs (l .i) (l .place) (omega arith) (omega arith) (l .inv .1)
+          (omega (arith, length-row (s .args .buf .now), s .pre .1 .0)) (l .inv .3) (p .put .ensures),
     )
-
-same-length : tie.Need-same-length Inv-loop μ-loop
-same-length c = omega arith
 
 returns : tie.Need-returns Inv-loop μ-loop
 returns c =
-    let s = c .before .before .before .before .before in
+    let s = start (c .before) in
     let l = c .before .loop in
     l .inv .3
     ∙ ap (over (row (s .args .buf .now)) 0)
@@ -90,14 +95,14 @@ put-all-spec =
     Inv-loop
     μ-loop
     loop-holds
-    mul-w
-    shared-slice-read-w
-    mul-v
-    shared-slice-read-v
+    (λ c. search needs)
+    (λ c. omega arith)
+    (λ c. search needs)
+    (λ c. omega arith)
     put-requires
-    add-at
-    add-i
-    loop-less
+    add-place
+    (λ c. omega arith)
+    (λ c. omega arith)
     loop-again
-    same-length
+    (λ c. omega arith)
     returns)

@@ -6,33 +6,24 @@ use borrow.Author.Needs.{needs}
 use Rattle.fields.proofs.with_bit.Statement.{statement}
 use Rattle.fields.proofs.with_bit.Tie as tie
 
-sub-k : tie.Need-sub-k
-sub-k c = search needs
+abbrev start : tie.After-wide → tie.Start
+start c =
+    let power = c .before in
+    power .before
 
-power-requires : tie.Need-power-requires
-power-requires c κs = search needs
-
-wide-requires : tie.Need-wide-requires
-wide-requires c κs = search needs
-
-add-x : tie.Need-add-x
-add-x c = search needs
-
-shr-x : tie.Need-shr-x
-shr-x c = search needs
-
-high : (c : tie.After-wide) → c .before .before .args .byte / 2 ^ (1 + (7 - c .before .before .args .o)) * 2 + c .before .before .args .b < 256
+-- the bits above the new one and itself, then the whole byte
+high : (c : tie.After-wide) → start c .args .byte / 2 ^ (1 + (7 - start c .args .o)) * 2 + start c .args .b < 256
 high c =
-    let s = c .before .before in
+    let s = start c in
     high-fits (s .args .byte) (s .args .o) (s .args .b) (s .fits .byte .fits) (s .pre .0) (s .pre .1)
 
 whole
     : (c : tie.After-wide)
-    → (c .before .before .args .byte / 2 ^ (1 + (7 - c .before .before .args .o)) * 2 + c .before .before .args .b) * 2 ^ (7 - c .before .before .args .o)
-    + c .before .before .args .byte % 2 ^ (7 - c .before .before .args .o)
+    → (start c .args .byte / 2 ^ (1 + (7 - start c .args .o)) * 2 + start c .args .b) * 2 ^ (7 - start c .args .o)
+    + start c .args .byte % 2 ^ (7 - start c .args .o)
     < 256
 whole c =
-    let s = c .before .before in
+    let s = start c in
     byte-fits (s .args .byte) (s .args .o) (s .args .b) (s .fits .byte .fits) (s .pre .0) (s .pre .1)
 
 mul-x : tie.Need-mul-x
@@ -55,18 +46,18 @@ cast-result c = record { fits = rw (c .wide .ensures, c .before .power .ensures)
 
 returns : tie.Need-returns
 returns c =
-    let a = c .before .before .args in
-    rw (c .wide .ensures, c .before .power .ensures) (bit-replaced (a .byte) (a .o) (a .b) (c .before .before .pre .0) (c .before .before .pre .1))
+    let s = start c in
+    rw (c .wide .ensures, c .before .power .ensures) (bit-replaced (s .args .byte) (s .args .o) (s .args .b) (s .pre .0) (s .pre .1))
 
 pub with-bit-spec : {M : Type 1} → statement M
 with-bit-spec =
     tie.close
     (tie.spec
-    sub-k
-    power-requires
-    wide-requires
-    add-x
-    shr-x
+    (λ c. search needs)
+    (λ c κs. search needs)
+    (λ c κs. search needs)
+    (λ c. search needs)
+    (λ c. search needs)
     mul-x
     add-x-2
     mul-x-2

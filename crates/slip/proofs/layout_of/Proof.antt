@@ -2,60 +2,42 @@ use mathlib.Core.Path.{ap₂}
 use Prim.Native.Nat.{ℕ, _-_, _*_}
 use native.Mathlib.Omega.{arith}
 use Rattle.slip.specs.Layout.{asking, padding}
-use Rattle.slip.proofs.Layouts.{length-high, total-inside, widths-layout}
+use Rattle.slip.proofs.Layouts.{total-inside, counted, widths-layout}
 use borrow.Author.Needs.{needs}
 use Rattle.slip.proofs.layout_of.Statement.{statement}
 use Rattle.slip.proofs.layout_of.Tie as tie
 
-widths-of-requires : tie.Need-widths-of-requires
-widths-of-requires c κs = search needs
-
-slip-length-requires : tie.Need-slip-length-requires
-slip-length-requires c κs = search needs
-
 mul-padding : tie.Need-mul-padding
-mul-padding c = record { fits = omega (arith, c .slip-length .ensures, length-high (asking (c .before .before .args .word))) }
-
-bits-of-requires : tie.Need-bits-of-requires
-bits-of-requires c κs = search needs
+mul-padding c =
+    let widths = c .before in
+    record { fits = omega (arith, c .slip-length .ensures, counted (asking (widths .before .args .word))) }
 
 sub-padding : tie.Need-sub-padding
-sub-padding c = omega (arith, c .bits-of .ensures, c .before .slip-length .ensures, total-inside (asking (c .before .before .before .args .word)))
-
-array-read-t5 : tie.Need-array-read-t5
-array-read-t5 c = search needs
-
-array-read-t7 : tie.Need-array-read-t7
-array-read-t7 c = search needs
-
-array-read-t6 : tie.Need-array-read-t6
-array-read-t6 c = search needs
-
-array-read-t16 : tie.Need-array-read-t16
-array-read-t16 c = search needs
-
-array-read-t19 : tie.Need-array-read-t19
-array-read-t19 c = search needs
+sub-padding c =
+    let length = c .before in
+    let widths = length .before in
+    omega (arith, c .bits-of .ensures, length .slip-length .ensures, total-inside (asking (widths .before .args .word)))
 
 returns : tie.Need-returns
 unfolding padding
 returns c =
-    let u = asking (c .before .before .before .args .word) in
-    widths-layout u (c .before .before .widths-of .result) _ (c .before .before .widths-of .ensures)
-    (ap₂ (λ (n t : ℕ). 8 * n - t) (c .before .slip-length .ensures) (c .bits-of .ensures))
+    let length = c .before in
+    let widths = length .before in
+    widths-layout (asking (widths .before .args .word)) (widths .widths-of .result) _ (widths .widths-of .ensures)
+    (ap₂ (λ (n t : ℕ). 8 * n - t) (length .slip-length .ensures) (c .bits-of .ensures))
 
 pub layout-of-spec : {M : Type 1} → statement M
 layout-of-spec =
     tie.close
     (tie.spec
-    widths-of-requires
-    slip-length-requires
+    (λ c κs. search needs)
+    (λ c κs. search needs)
     mul-padding
-    bits-of-requires
+    (λ c κs. search needs)
     sub-padding
-    array-read-t5
-    array-read-t7
-    array-read-t6
-    array-read-t16
-    array-read-t19
+    (λ c. search needs)
+    (λ c. search needs)
+    (λ c. search needs)
+    (λ c. search needs)
+    (λ c. search needs)
     returns)

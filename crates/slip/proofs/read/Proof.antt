@@ -1,11 +1,10 @@
 use mathlib.Core.Path.{_≡_, refl, sym, ap, _∙_}
-use mathlib.Core.Bool.{Bool, cond, _&&_}
+use mathlib.Core.Bool.{Bool, cond}
+use mathlib.Core.List.{List}
 use Prim.Native.Nat.{ℕ}
-use lib.Dec.{eqb, ltb}
 use lib.ListN.{length}
-use Rattle.slip.specs.Layout.{asking}
-use Rattle.slip.specs.Reading.{readingSlip}
-use Rattle.slip.specs.Parts.{refusedBy}
+use Rattle.slip.specs.Layout.{asking, slipLength}
+use Rattle.slip.specs.Reading.{refusedBy, readingSlip}
 use Rattle.slip.specs.declared.Received.{Received}
 use Rattle.slip.proofs.Layouts.{length-alike}
 use Rattle.slip.proofs.Fronts.{strictly, strict}
@@ -13,37 +12,37 @@ use borrow.Author.Needs.{needs}
 use Rattle.slip.proofs.read.Statement.{statement}
 use Rattle.slip.proofs.read.Tie as tie
 
-read-front-requires : tie.Need-read-front-requires
-read-front-requires c κs = search needs
+abbrev front : tie.After-slip-length → tie.After-read-front
+front c =
+    let request = c .before in
+    let known = request .before in
+    known .before
 
-slip-length-requires : tie.Need-slip-length-requires
-slip-length-requires c κs = search needs
+abbrev bytes : tie.After-read-front → List ℕ
+bytes c =
+    let known = c .before in
+    known .before .args .bytes .now
 
-refused-requires : tie.Need-refused-requires
-refused-requires c κs = search needs
-
--- the code's test, and both answers
-abbrev answered : Received → ℕ → ℕ → Received
-answered front called size = cond (eqb (front .refusal) 0 && ltb called size) (refusedBy 20) front
-
-is
-    : (c : tie.After-slip-length)
-    → answered (c .before .before .before .read-front .result) (c .slip-length .result) (length (c .before .before .before .before .before .args .bytes .now))
-    ≡ readingSlip (c .before .before .before .before .before .args .bytes .now)
+is : (c : tie.After-slip-length) → strictly (front c .read-front .result) (c .slip-length .result) (length (bytes (front c))) ≡ readingSlip (bytes (front c))
 is c =
-    let front = c .before .before .before .read-front .result in
-    let bytes = c .before .before .before .before .before .args .bytes .now in
-    ap (λ (n : ℕ). answered front n (length bytes)) (c .slip-length .ensures ∙ length-alike (asking (front .request .word)) (front .request) refl)
-    ∙ ap (λ (r : Received). strictly r (length bytes)) (c .before .before .before .read-front .ensures)
-    ∙ strict bytes
+    let r = front c .read-front .result in
+    let size = length (bytes (front c)) in
+    ap (λ (n : ℕ). strictly r n size) (c .slip-length .ensures ∙ length-alike (asking (r .request .word)) (r .request) refl)
+    ∙ ap (λ (r : Received). strictly r (slipLength (r .request)) size) (front c .read-front .ensures)
+    ∙ strict (bytes (front c))
 
 returns : tie.Need-returns
-returns c = c .refused .ensures ∙ ap (λ (t : Bool). cond t (refusedBy 20) (c .before .before .before .before .before .read-front .result)) (sym (c .before .if1 .taken)) ∙ is (c .before .before)
+returns c =
+    let test = c .before in
+    let called = test .before in
+    c .refused .ensures ∙ ap (λ (t : Bool). cond t (refusedBy 20) (front called .read-front .result)) (sym (test .if1 .taken)) ∙ is called
 
 returns-2 : tie.Need-returns-2
-returns-2 c = ap (λ (t : Bool). cond t (refusedBy 20) (c .before .before .before .before .read-front .result)) (sym (c .if1 .left)) ∙ is (c .before)
+returns-2 c =
+    let called = c .before in
+    ap (λ (t : Bool). cond t (refusedBy 20) (front called .read-front .result)) (sym (c .if1 .left)) ∙ is called
 
 pub read-spec : {M : Type 1} → statement M
 read-spec =
     tie.close
-    (tie.spec read-front-requires slip-length-requires refused-requires returns returns-2)
+    (tie.spec (λ c κs. search needs) (λ c κs. search needs) (λ c κs. search needs) returns returns-2)

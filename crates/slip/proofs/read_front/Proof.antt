@@ -1,5 +1,6 @@
 use mathlib.Core.Path.{_≡_, refl, sym, ap, ap₂, _∙_, subst}
 use mathlib.Core.Bool.{false}
+use mathlib.Core.List.{List}
 use Prim.Native.Nat.{ℕ, _≤_, _<_}
 use native.Mathlib.Omega.{arith}
 use lib.ListN.{length}
@@ -8,7 +9,7 @@ use Rattle.fields.specs.Field.{field}
 use Rattle.fields.specs.Record.{fields, AllInside}
 use Rattle.fields.specs.declared.Taken.{Taken}
 use Rattle.fields.proofs.Reading.{field-lt}
-use Rattle.slip.specs.Layout.{asking, slipLength, layout}
+use Rattle.slip.specs.Layout.{headerWidth, asking, slipLength, layout}
 use Rattle.slip.specs.Reading.{headed, valuesIn}
 use Rattle.slip.specs.Parts.{judging, Small}
 use Rattle.slip.proofs.Layouts.{layout-inside, length-alike, layout-alike}
@@ -17,118 +18,133 @@ use borrow.Author.Needs.{needs}
 use Rattle.slip.proofs.read_front.Statement.{statement}
 use Rattle.slip.proofs.read_front.Tie as tie
 
-refused-requires : tie.Need-refused-requires
-refused-requires c κs = search needs
+-- ---- the steps: the header is there, its word is known, the bytes are enough
 
-returns : tie.Need-returns
-returns c = c .refused .ensures ∙ front-none (c .before .before .before .args .bytes .now) (c .before .if1 .taken)
+abbrev bytes : tie.Else1 → List ℕ
+bytes c =
+    let known = c .before in
+    known .before .args .bytes .now
 
-take-requires : tie.Need-take-requires
-take-requires c κs = search needs
+abbrev taking : tie.After-struct-known → tie.Else1
+taking c =
+    let take = c .before in
+    take .before
+
+abbrev there : tie.After-asking → tie.Else1
+there c = taking (c .before)
+
+abbrev header : tie.Else2 → tie.After-asking
+header c =
+    let wrong = c .before in
+    wrong .before
+
+abbrev word : tie.Else3 → tie.Else2
+word c =
+    let length = c .before in
+    length .before
+
+abbrev all : tie.Else3 → List ℕ
+all c = bytes (there (header (word c)))
+
+abbrev values : tie.After-take-all → tie.Else3
+values c =
+    let layout = c .before in
+    layout .before
 
 -- ---- what each step says of the bytes
 
-asked : (c : tie.After-asking) → c .asking .result ≡ headed (c .before .before .before .before .before .args .bytes .now)
+taken : (c : tie.After-struct-known) → c .before .take .result .value ≡ field (bytes (taking c)) 0 headerWidth
+taken c = ap (λ (t : Taken). t .value) (c .before .take .ensures)
+
+asked : (c : tie.After-asking) → c .asking .result ≡ headed (bytes (there c))
 asked c =
-    c .asking .ensures
-    ∙ header-word (c .before .before .before .before .before .args .bytes .now) (c .before .before .take .result .value) (ap (λ (t : Taken). t .value) (c .before .before .take .ensures))
+    let header = c .before in
+    c .asking .ensures ∙ header-word (bytes (there c)) (header .before .take .result .value) (taken header)
 
-known : (c : tie.Else2) → wordWrong (headed (c .before .before .before .before .before .before .before .args .bytes .now)) ≡ false
-known c = ap wordWrong (sym (asked (c .before .before))) ∙ sym (c .before .word-wrong .ensures) ∙ c .if2 .left
+known : (c : tie.Else2) → wordWrong (headed (bytes (there (header c)))) ≡ false
+known c = ap wordWrong (sym (asked (header c))) ∙ sym (c .before .word-wrong .ensures) ∙ c .if2 .left
 
-called : (c : tie.After-slip-length) → c .slip-length .result ≡ slipLength (headed (c .before .before .before .before .before .before .before .before .args .bytes .now))
+called : (c : tie.After-slip-length) → c .slip-length .result ≡ slipLength (headed (bytes (there (header (c .before)))))
 called c =
-    let u = c .before .before .before .asking .result in
-    c .slip-length .ensures ∙ length-alike (asking (u .word)) u refl ∙ ap slipLength (asked (c .before .before .before))
+    let u = header (c .before) .asking .result in
+    c .slip-length .ensures ∙ length-alike (asking (u .word)) u refl ∙ ap slipLength (asked (header (c .before)))
 
-enough
-    : (c : tie.Else3)
-    → slipLength (headed (c .before .before .before .before .before .before .before .before .before .args .bytes .now))
-    ≤ length (c .before .before .before .before .before .before .before .before .before .args .bytes .now)
-enough c =
-    let bytes = c .before .before .before .before .before .before .before .before .before .args .bytes .now in
-    subst (λ (n : ℕ). n ≤ length bytes) (called (c .before)) (c .if3 .left)
+enough : (c : tie.Else3) → slipLength (headed (all c)) ≤ length (all c)
+enough c = subst (λ (n : ℕ). n ≤ length (all c)) (called (c .before)) (c .if3 .left)
 
-laid : (c : tie.After-layout-of) → c .layout-of .result ≡ layout (headed (c .before .before .before .before .before .before .before .before .before .before .args .bytes .now))
+laid : (c : tie.After-layout-of) → c .layout-of .result ≡ layout (headed (all (c .before)))
 laid c =
-    let u = c .before .before .before .before .before .asking .result in
-    c .layout-of .ensures ∙ layout-alike (asking (u .word)) u refl ∙ ap layout (asked (c .before .before .before .before .before))
+    let asking-step = header (word (c .before)) in
+    let u = asking-step .asking .result in
+    c .layout-of .ensures ∙ layout-alike (asking (u .word)) u refl ∙ ap layout (asked asking-step)
 
-gathered : (c : tie.After-take-all) → c .take-all .result ≡ valuesIn (c .before .before .before .before .before .before .before .before .before .before .before .args .bytes .now)
+gathered : (c : tie.After-take-all) → c .take-all .result ≡ valuesIn (all (values c))
 unfolding valuesIn
-gathered c =
-    let bytes = c .before .before .before .before .before .before .before .before .before .before .before .args .bytes .now in
-    c .take-all .ensures ∙ ap (fields bytes 0) (laid (c .before))
+gathered c = c .take-all .ensures ∙ ap (fields (all (values c)) 0) (laid (c .before))
+
+-- ---- the needs
+
+returns : tie.Need-returns
+returns c =
+    let test = c .before in
+    let known = test .before in
+    c .refused .ensures ∙ front-none (known .before .args .bytes .now) (test .if1 .taken)
 
 mul-asking : tie.Need-mul-asking
 mul-asking c =
-    let bytes = c .before .before .before .before .args .bytes .now in
-    let e : c .before .take .result .value ≡ field bytes 0 16 = ap (λ (t : Taken). t .value) (c .before .take .ensures) in
-    record { fits = omega (arith, field-lt bytes 0 16 (omega arith)) }
-
-asking-requires : tie.Need-asking-requires
-asking-requires c κs = search needs
-
-word-wrong-requires : tie.Need-word-wrong-requires
-word-wrong-requires c κs = search needs
-
-refused-requires-2 : tie.Need-refused-requires-2
-refused-requires-2 c κs = search needs
+    record { fits = omega (arith, taken c, field-lt (bytes (taking c)) 0 headerWidth (omega (arith, taking c .if1 .left))) }
 
 returns-2 : tie.Need-returns-2
 returns-2 c =
-    let a = c .before .before .before in
+    let test = c .before in
+    let wrong = test .before in
+    let asking = wrong .before in
     c .refused2 .ensures
-    ∙ front-word (c .before .before .before .before .before .before .before .before .args .bytes .now) (search needs)
-    (ap wordWrong (sym (asked a)) ∙ sym (c .before .before .word-wrong .ensures) ∙ c .before .if2 .taken)
-
-slip-length-requires : tie.Need-slip-length-requires
-slip-length-requires c κs = search needs
-
-refused-requires-3 : tie.Need-refused-requires-3
-refused-requires-3 c κs = search needs
+    ∙ front-word (bytes (there asking)) (there asking .if1 .left)
+    (ap wordWrong (sym (asked asking)) ∙ sym (wrong .word-wrong .ensures) ∙ test .if2 .taken)
 
 returns-3 : tie.Need-returns-3
 returns-3 c =
-    let a = c .before .before .before .before .before in
+    let test = c .before in
+    let length-step = test .before in
+    let word = length-step .before in
+    let first = there (header word) in
     c .refused3 .ensures
-    ∙ front-few (c .before .before .before .before .before .before .before .before .before .before .args .bytes .now) (search needs) (known (c .before .before .before))
-    (subst (λ (n : ℕ). length (c .before .before .before .before .before .before .before .before .before .before .args .bytes .now) < n) (called (c .before .before)) (c .before .if3 .taken))
-
-layout-of-requires : tie.Need-layout-of-requires
-layout-of-requires c κs = search needs
+    ∙ front-few (bytes first) (first .if1 .left) (known word) (subst (λ (n : ℕ). length (bytes first) < n) (called length-step) (test .if3 .taken))
 
 take-all-requires : tie.Need-take-all-requires
 take-all-requires c κs =
-    let bytes = c .before .before .before .before .before .before .before .before .before .before .args .bytes .now in
-    subst (AllInside bytes 0) (sym (laid c)) (layout-inside (headed bytes) bytes (enough (c .before)))
+    let l = all (c .before) in
+    subst (AllInside l 0) (sym (laid c)) (layout-inside (headed l) l (enough (c .before)))
 
 judged-requires : tie.Need-judged-requires
-judged-requires c κs = subst Small (sym (gathered c)) (valuesIn-small (c .before .before .before .before .before .before .before .before .before .before .before .args .bytes .now) (enough (c .before .before)))
+judged-requires c κs = subst Small (sym (gathered c)) (valuesIn-small (all (values c)) (enough (values c)))
 
 returns-4 : tie.Need-returns-4
 returns-4 c =
-    let bytes = c .before .before .before .before .before .before .before .before .before .before .before .before .args .bytes .now in
+    let gather = c .before in
+    let test = values gather in
+    let first = header (word test) in
     c .judged .ensures
-    ∙ ap₂ judging (asked (c .before .before .before .before .before .before .before)) (gathered (c .before))
-    ∙ front-judged bytes (search needs) (known (c .before .before .before .before .before)) (enough (c .before .before .before))
+    ∙ ap₂ judging (asked first) (gathered gather)
+    ∙ front-judged (all test) (there first .if1 .left) (known (word test)) (enough test)
 
 pub read-front-spec : {M : Type 1} → statement M
 read-front-spec =
     tie.close
     (tie.spec
-    refused-requires
+    (λ c κs. search needs)
     returns
-    take-requires
+    (λ c κs. search needs)
     mul-asking
-    asking-requires
-    word-wrong-requires
-    refused-requires-2
+    (λ c κs. search needs)
+    (λ c κs. search needs)
+    (λ c κs. search needs)
     returns-2
-    slip-length-requires
-    refused-requires-3
+    (λ c κs. search needs)
+    (λ c κs. search needs)
     returns-3
-    layout-of-requires
+    (λ c κs. search needs)
     take-all-requires
     judged-requires
     returns-4)

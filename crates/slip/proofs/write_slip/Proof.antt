@@ -14,51 +14,57 @@ use borrow.Author.Needs.{needs}
 use Rattle.slip.proofs.write_slip.Statement.{statement}
 use Rattle.slip.proofs.write_slip.Tie as tie
 
-layout-of-requires : tie.Need-layout-of-requires
-layout-of-requires c κs = search needs
-
-values-of-requires : tie.Need-values-of-requires
-values-of-requires c κs = search needs
-
-slice-aggregate-put-all : tie.Need-slice-aggregate-put-all
-slice-aggregate-put-all c = search needs
-
-slice-aggregate-put-all-2 : tie.Need-slice-aggregate-put-all-2
-slice-aggregate-put-all-2 c = search needs
-
 -- there is a value for each field
 six : (u : Request) → length (valuesOf u) ≡ length (layout u)
 unfolding valuesOf layout widths
 six u = refl
 
+-- ---- the steps back from where both lists are lent
+
+abbrev values : tie.After-values → tie.After-values-of
+values c =
+    let layout = c .before in
+    let lent = layout .before in
+    lent .before
+
+abbrev start : tie.After-layout-of → tie.Start
+start c =
+    let known = c .before in
+    known .before
+
+-- ---- the needs
+
+laid : (c : tie.After-layout-of) → c .layout-of .result ≡ layout (start c .args .request)
+laid c = let u = start c .args .request in c .layout-of .ensures ∙ layout-alike (asking (u .word)) u refl
+
 put-all-requires : tie.Need-put-all-requires
 put-all-requires c κs =
-    let s = c .before .before .before .before .before .before in
-    let u = s .args .request in
-    let ws : c .before .before .before .before .layout-of .result ≡ layout u = c .before .before .before .before .layout-of .ensures ∙ layout-alike (asking (u .word)) u refl in (
-      ap length (c .before .before .before .values-of .ensures) ∙ six u ∙ sym (ap length ws),
-      subst (AllInside (s .args .buffer .now) 0) (sym ws) (layout-inside u (s .args .buffer .now) (s .pre .2)),
+    let layout = values c .before in
+    let s = start layout in
+    let u = s .args .request in (
+      ap length (values c .values-of .ensures) ∙ six u ∙ sym (ap length (laid layout)),
+      subst (AllInside (s .args .buffer .now) 0) (sym (laid layout)) (layout-inside u (s .args .buffer .now) (s .pre .2)),
     )
-
-same-length : tie.Need-same-length
-same-length c = search needs
 
 returns : tie.Need-returns
 returns c =
-    let s = c .before .before .before .before .before .before .before .before .before in
-    let u = s .args .request in
-    let ws : c .before .before .before .before .before .before .before .layout-of .result ≡ layout u = c .before .before .before .before .before .before .before .layout-of .ensures ∙ layout-alike (asking (u .word)) u refl in
-    slip-written u (s .args .buffer .now) (c .before .before .put-all .last .0) (λ i. c .before .before .before .before .before .before .before .before .slice-known .given i .fits) (λ i. c .slice-known2 .given i .fits) (s .pre .2)
-    (c .before .before .put-all .ensures ∙ ap₂ (λ (l v : List ℕ). over (row (s .args .buffer .now)) 0 (packed l v)) ws (c .before .before .before .before .before .before .values-of .ensures))
+    let buffer = c .before in
+    let put = buffer .before in
+    let both = values (put .before) in
+    let layout = both .before in
+    let s = start layout in
+    let old = s .args .buffer .now in
+    slip-written (s .args .request) old (put .put-all .last .0) (λ i. layout .before .slice-known .given i .fits) (λ i. c .slice-known2 .given i .fits) (s .pre .2)
+    (put .put-all .ensures ∙ ap₂ (λ (l v : List ℕ). over (row old) 0 (packed l v)) (laid layout) (both .values-of .ensures))
 
 pub write-slip-spec : {M : Type 1} → statement M
 write-slip-spec =
     tie.close
     (tie.spec
-    layout-of-requires
-    values-of-requires
-    slice-aggregate-put-all
-    slice-aggregate-put-all-2
+    (λ c κs. search needs)
+    (λ c κs. search needs)
+    (λ c. search needs)
+    (λ c. search needs)
     put-all-requires
-    same-length
+    (λ c. search needs)
     returns)

@@ -95,7 +95,7 @@ impl BitReader<'_> {
     }
 }
 
-/// Puts fields into lent bytes that are zero.
+/// Puts fields into lent bytes that are zeros.
 struct BitWriter<'a> {
     bytes: &'a mut [u8],
     place: usize,

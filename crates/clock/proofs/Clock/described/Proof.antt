@@ -7,9 +7,6 @@ use borrow.Author.Needs.{needs}
 use Rattle.clock.proofs.Clock.described.Statement.{statement}
 use Rattle.clock.proofs.Clock.described.Tie as tie
 
-shown-line-requires : tie.Need-shown-line-requires
-shown-line-requires c κs = search needs
-
 returns : tie.Need-returns
 unfolding detailsOf
 returns c =
@@ -19,4 +16,4 @@ returns c =
     simp (c .before .shown-line .ensures, l, b, toZ-ofZ w64 _ (s .fits .now))
 
 pub described-spec : {M : Type 1} → statement M
-described-spec = tie.close (tie.spec shown-line-requires returns)
+described-spec = tie.close (tie.spec (λ c κs. search needs) returns)

@@ -1,30 +1,38 @@
-use mathlib.Core.Path.{sym, _∙_, subst}
-use lib.Dec.{T}
+use mathlib.Core.Path.{_≡_, sym, _∙_}
 use mir.Syntax.{w64}
 use mir.ValLaws.{toZ-ofZ}
-use Rattle.clock.specs.Details.{detailing, detailsRefusal, detailsTable}
-use Rattle.clock.proofs.Taken.{guarded-none}
+use Rattle.tables.specs.Tables.{first}
+use Rattle.tables.proofs.Tables.{answered, refused-by}
+use Rattle.clock.specs.Taken.{guarded}
+use Rattle.clock.specs.Details.{detailsTable, detailing}
 use borrow.Author.Needs.{needs}
 use Rattle.clock.proofs.Clock.details.Statement.{statement}
 use Rattle.clock.proofs.Clock.details.Tie as tie
 
-is-clock-requires : tie.Need-is-clock-requires
-is-clock-requires c κs = search needs
-
-details-clock-requires : tie.Need-details-clock-requires
-details-clock-requires c κs = subst T (sym (c .if1 .taken) ∙ c .before .is-clock .ensures) tt
-
-no-details-requires : tie.Need-no-details-requires
-no-details-requires c κs = search needs
+refusal-is : (c : tie.After-time-refusal) →
+    c .time-refusal .result ≡ first (guarded (c .before .before .args .self) (detailsTable (c .before .before .args .self) (c .before .before .args .now)))
+unfolding detailsTable
+refusal-is c = c .time-refusal .ensures ∙ simp (toZ-ofZ w64 _ (c .before .before .fits .now))
 
 returns : tie.Need-returns
-returns c = c .details-clock .ensures ∙ simp (toZ-ofZ w64 _ (c .before .before .before .fits .now))
+unfolding detailing
+returns c =
+    let if1 = c .before in
+    let refusal = if1 .before in
+    let s = refusal .before .before in
+    simp (if1 .if1 .taken, c .described .ensures, toZ-ofZ w64 _ (s .fits .now))
+    (answered (guarded (s .args .self) (detailsTable (s .args .self) (s .args .now))) _ _ (sym (refusal-is refusal) ∙ if1 .if1 .taken))
 
 returns-2 : tie.Need-returns-2
-unfolding detailing detailsRefusal
+unfolding detailing
 returns-2 c =
-    let s = c .before .before .before in
-    simp (c .no-details .ensures, guarded-none (s .args .self) (detailsTable (s .args .self) (s .args .now)) (sym (c .before .before .is-clock .ensures) ∙ c .before .if1 .left))
+    let if1 = c .before in
+    let refusal = if1 .before in
+    let s = refusal .before .before in
+    simp (c .zeros .ensures)
+    (refused-by (guarded (s .args .self) (detailsTable (s .args .self) (s .args .now))) _ _ _ (refusal-is refusal) (if1 .if1 .left))
 
 pub details-spec : {M : Type 1} → statement M
-details-spec = tie.close (tie.spec is-clock-requires details-clock-requires no-details-requires returns returns-2)
+details-spec =
+    tie.close
+    (tie.spec (λ c κs. search needs) (λ c κs. search needs) (λ c κs. search needs) (λ c κs. search needs) returns returns-2)

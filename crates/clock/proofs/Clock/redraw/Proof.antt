@@ -2,94 +2,138 @@ use mathlib.Core.Path.{_≡_, sym, ap, _∙_, subst}
 use mir.Syntax.{w64}
 use mir.Val.{toZ, ofZ}
 use mir.ValLaws.{toZ-ofZ}
-use Rattle.clock.specs.Clock.{Drawable, InRange}
-use Rattle.clock.specs.Update.{place}
-use Rattle.clock.specs.Parts.{numberOf}
-use Rattle.clock.proofs.Requests.{old-drawable}
-use Rattle.clock.proofs.NewLine.{startNow, lineNow, refusalNow, now-passed, place-passed, line-drawable, line-drawn, update-taken, update-judged}
+use Rattle.tables.specs.Tables.{first}
+use Rattle.tables.proofs.Tables.{passed, answered, refused-by}
+use Rattle.line.specs.Line.{Computable}
+use Rattle.line.specs.Value.{held, lineOr}
+use Rattle.line.specs.declared.Redrawn.{Redrawn}
+use Rattle.clock.specs.Clock.{oldLine, InRange, Drawable, Valid}
+use Rattle.clock.specs.Taken.{guarded}
+use Rattle.clock.specs.Update.{point, newLine, newLineTable, updateTable, updating}
+use Rattle.clock.specs.Parts.{Judged}
+use Rattle.clock.proofs.Requests.{point-in-range, rate-permitted, old-drawable}
 use Rattle.clock.proofs.Taken.{taken-valid}
+use Rattle.clock.proofs.NewLine.{request-taken, now-passed, values-passed, rate-passed, line-decides, new-begins, found-computable, found-new, passed-in-range}
 use borrow.Author.Needs.{needs}
 use Rattle.clock.proofs.Clock.redraw.Statement.{statement}
 use Rattle.clock.proofs.Clock.redraw.Tie as tie
 
-module _ (c : tie.After-replaces) where
-  place-is : toZ w64 (ofZ w64 (c .before .before .before .before .place .result)) ≡ place (c .before .before .before .before .before .before .args .request) (c .before .before .before .before .before .before .args .now)
-  place-is =
-      let back : toZ w64 (ofZ w64 (c .before .before .before .before .place .result)) ≡ c .before .before .before .before .place .result = search needs in
-      back ∙ c .before .before .before .before .place .ensures ∙ simp (toZ-ofZ w64 _ (c .before .before .before .before .before .before .fits .now))
+-- ---- what rules 1 to 11 leave known
 
-  start-is : c .before .before .before .new-synthetic .result ≡ startNow (c .before .before .before .before .before .before .args .self) (c .before .before .before .before .before .before .args .request) (c .before .before .before .before .before .before .args .now)
-  start-is = c .before .before .before .new-synthetic .ensures ∙ simp (c .before .before .before .before .before .old-line .ensures, place-is)
+module _ (s : tie.Start) where
+  abbrev valid : Valid (s .args .self)
+  valid = taken-valid (s .args .self) (request-taken (s .args .self) (s .args .request) (s .args .now) (s .pre))
 
-  line-is : c .before .drawn-line .result ≡ lineNow (c .before .before .before .before .before .before .args .self) (c .before .before .before .before .before .before .args .request) (c .before .before .before .before .before .before .args .now)
-  line-is =
-      let back : toZ w64 (ofZ w64 (c .before .before .number .result)) ≡ c .before .before .number .result = search needs in
-      let number : toZ w64 (ofZ w64 (c .before .before .number .result)) ≡ numberOf (startNow (c .before .before .before .before .before .before .args .self) (c .before .before .before .before .before .before .args .request) (c .before .before .before .before .before .before .args .now)) =
-      back ∙ c .before .before .number .ensures ∙ ap numberOf start-is in
-      c .before .drawn-line .ensures ∙ simp (c .before .before .before .before .before .old-line .ensures, place-is, number)
+  abbrev time : InRange (s .args .now)
+  time = now-passed (s .args .self) (s .args .request) (s .args .now) (s .pre)
 
-refusal-is : (c : tie.After-line-refusal) → c .line-refusal .result ≡ refusalNow (c .before .before .before .before .before .before .before .args .self) (c .before .before .before .before .before .before .before .args .request) (c .before .before .before .before .before .before .before .args .now)
-refusal-is c = c .line-refusal .ensures ∙ simp (c .before .replaces .ensures, start-is (c .before), line-is (c .before), toZ-ofZ w64 _ (c .before .before .before .before .before .before .before .fits .now))
+  abbrev at-point : InRange (point (s .args .request) (s .args .now))
+  at-point = point-in-range (s .args .request) (values-passed (s .args .self) (s .args .request) (s .args .now) (s .pre)) (s .args .now) time
 
-old-line-requires : tie.Need-old-line-requires
-old-line-requires c κs = search needs
+-- ---- what the code finds
 
-place-requires : tie.Need-place-requires
-place-requires c κs = search needs
+-- the start, from each step on
+abbrev from-point : tie.After-point → tie.Start
+from-point c = c .before .before
 
-new-synthetic-requires : tie.Need-new-synthetic-requires
-new-synthetic-requires c κs =
-    let s = c .before .before in
-    let back : toZ w64 (ofZ w64 (c .place .result)) ≡ c .place .result = search needs in
-    let e : toZ w64 (ofZ w64 (c .place .result)) ≡ place (s .args .request) (s .args .now) = back ∙ c .place .ensures ∙ simp (toZ-ofZ w64 _ (s .fits .now)) in (
-      subst Drawable (sym (c .before .old-line .ensures)) (old-drawable (s .args .self) (taken-valid (s .args .self) (s .pre .0))),
-      subst InRange (sym e) (place-passed (s .args .self) (s .args .request) (s .args .now) (s .pre .0) (s .pre .1)),
+abbrev from-new : tie.After-new-line → tie.Start
+from-new c = from-point (c .before)
+
+abbrev from-found : tie.After-line-or → tie.Start
+from-found c = from-new (c .before)
+
+abbrev from-judged : tie.After-line-refusal → tie.Start
+from-judged c = from-found (c .before)
+
+point-is : (c : tie.After-point) → toZ w64 (ofZ w64 (c .point .result)) ≡ point (from-point c .args .request) (from-point c .args .now)
+point-is c =
+    let back : toZ w64 (ofZ w64 (c .point .result)) ≡ c .point .result = search needs in
+    back ∙ c .point .ensures ∙ simp (toZ-ofZ w64 _ (from-point c .fits .now))
+
+drawn-is : (c : tie.After-new-line) → c .new-line .result ≡ held (newLine (from-new c .args .self) (from-new c .args .request) (from-new c .args .now))
+unfolding newLine
+drawn-is c = c .new-line .ensures ∙ simp (c .before .before .old-line .ensures, point-is (c .before))
+
+judged : (c : tie.After-line-or) →
+    Judged (from-found c .args .self) (from-found c .args .request) (from-found c .args .now) (c .before .new-line .result) (c .line-or .result) (c .before .before .before .old-line .result)
+judged c =
+    let drawn = c .before in
+    let old = drawn .before .before in
+    let s = from-found c in
+    let self = s .args .self in
+    let u = s .args .request in
+    let now = s .args .now in
+    let found : c .line-or .result ≡ lineOr (drawn .new-line .result) (oldLine self) = c .line-or .ensures ∙ simp (old .old-line .ensures) in
+    let begins = new-begins self u now (valid s) (at-point s) (rate-permitted u (rate-passed self u now (s .pre))) in
+    record {
+      clock = valid s;
+      time = time s;
+      drawn = drawn-is drawn;
+      line = found;
+      before = old .old-line .ensures;
+      computable = rw (found, drawn-is drawn) (found-computable self u now (valid s) begins);
+    }
+
+refusal-is : (c : tie.After-line-refusal) → c .line-refusal .result ≡ first (newLineTable (from-judged c .args .self) (from-judged c .args .request) (from-judged c .args .now))
+refusal-is c = c .line-refusal .ensures ∙ simp (toZ-ofZ w64 _ (from-judged c .fits .now))
+
+-- ---- what the code asks
+
+new-line-requires : tie.Need-new-line-requires
+new-line-requires c κs =
+    let old = c .before in
+    let s = old .before in (
+      values-passed (s .args .self) (s .args .request) (s .args .now) (s .pre),
+      subst Drawable (sym (old .old-line .ensures)) (old-drawable (s .args .self) (valid s)),
+      subst InRange (sym (point-is c)) (at-point s),
     )
-
-number-requires : tie.Need-number-requires
-number-requires c κs = search needs
-
-drawn-line-requires : tie.Need-drawn-line-requires
-drawn-line-requires c κs = search needs
-
-replaces-requires : tie.Need-replaces-requires
-replaces-requires c κs = search needs
 
 line-refusal-requires : tie.Need-line-refusal-requires
-line-refusal-requires c κs =
-    let s = c .before .before .before .before .before .before in (
-      taken-valid (s .args .self) (s .pre .0),
-      subst Drawable (sym (line-is c)) (line-drawable (s .args .self) (s .args .request) (s .args .now) (s .pre .0) (s .pre .1)),
-      subst InRange (sym (toZ-ofZ w64 _ (s .fits .now))) (now-passed (s .args .self) (s .args .request) (s .args .now) (s .pre .1)),
-    )
+line-refusal-requires c κs = rw (toZ-ofZ w64 _ (from-found c .fits .now)) (judged c)
 
 updated-requires : tie.Need-updated-requires
+unfolding newLineTable
 updated-requires c κs =
-    let s = c .before .before .before .before .before .before .before .before in
-    simp (toZ-ofZ w64 _ (s .fits .now))
-    (line-is (c .before .before) ∙ line-drawn (s .args .self) (s .args .request) (s .args .now) (s .pre .0) (s .pre .1) (sym (refusal-is (c .before)) ∙ c .if1 .taken))
+    let refusal = c .before in
+    let found = refusal .before in
+    let j = judged found in
+    let s = from-found found in
+    let self = s .args .self in
+    let u = s .args .request in
+    let now = s .args .now in
+    let begun = passed-in-range self u now (valid s) (passed 12 (newLineTable self u now) tt (sym (refusal-is refusal) ∙ c .if1 .taken)) in
+    rw (toZ-ofZ w64 _ (s .fits .now)) (j .line ∙ ap (λ (r : Redrawn). lineOr r (oldLine self)) (j .drawn) ∙ found-new self u now begun)
 
 returns : tie.Need-returns
+unfolding updating
 returns c =
-    let s = c .before .before .before .before .before .before .before .before .before in
-    simp (c .updated .ensures, toZ-ofZ w64 _ (s .fits .now))
-    (update-taken (s .args .self) (s .args .request) (s .args .now) (s .pre .0) (s .pre .1) _ (refusal-is (c .before .before)) (c .before .if1 .taken))
+    let if1 = c .before in
+    let refusal = if1 .before in
+    let s = from-judged refusal in
+    let self = s .args .self in
+    let u = s .args .request in
+    let now = s .args .now in
+    simp (c .updated .ensures, if1 .if1 .taken, toZ-ofZ w64 _ (s .fits .now))
+    (answered (guarded self (updateTable self u now)) _ _ (line-decides self u now (s .pre) ∙ sym (refusal-is refusal) ∙ if1 .if1 .taken))
 
 returns-2 : tie.Need-returns-2
+unfolding updating
 returns-2 c =
-    let s = c .before .before .before .before .before .before .before .before in
-    update-judged (s .args .self) (s .args .request) (s .args .now) (s .pre .0) (s .pre .1) _ (refusal-is (c .before)) (c .if1 .left)
+    let refusal = c .before in
+    let s = from-judged refusal in
+    let self = s .args .self in
+    let u = s .args .request in
+    let now = s .args .now in
+    refused-by (guarded self (updateTable self u now)) _ _ _ (refusal-is refusal ∙ sym (line-decides self u now (s .pre))) (c .if1 .left)
 
 pub redraw-spec : {M : Type 1} → statement M
 redraw-spec =
     tie.close
     (tie.spec
-    old-line-requires
-    place-requires
-    new-synthetic-requires
-    number-requires
-    drawn-line-requires
-    replaces-requires
+    (λ c κs. search needs)
+    (λ c κs. search needs)
+    new-line-requires
+    (λ c κs. search needs)
     line-refusal-requires
     updated-requires
     returns

@@ -1,25 +1,30 @@
-use mathlib.Core.Path.{sym, _∙_, subst}
-use lib.Dec.{T}
+use mathlib.Core.Path.{_≡_, sym, _∙_}
 use mir.Syntax.{w64}
 use mir.ValLaws.{toZ-ofZ}
-use Rattle.clock.proofs.NewLine.{update-none}
+use Rattle.tables.specs.Tables.{first}
+use Rattle.tables.proofs.Tables.{refused-by}
+use Rattle.clock.specs.Taken.{guarded}
+use Rattle.clock.specs.Update.{requestTable, newLineTable, updateTable, updating}
+use Rattle.clock.proofs.Guarded.{front-stands}
 use borrow.Author.Needs.{needs}
 use Rattle.clock.proofs.Clock.update.Statement.{statement}
 use Rattle.clock.proofs.Clock.update.Tie as tie
 
-is-clock-requires : tie.Need-is-clock-requires
-is-clock-requires c κs = search needs
-
-update-clock-requires : tie.Need-update-clock-requires
-update-clock-requires c κs = subst T (sym (c .if1 .taken) ∙ c .before .is-clock .ensures) tt
-
 returns : tie.Need-returns
-returns c = c .update-clock .ensures ∙ simp (toZ-ofZ w64 _ (c .before .before .before .fits .now))
+returns c =
+    let s = c .before .before .before in
+    c .redraw .ensures ∙ simp (toZ-ofZ w64 _ (s .fits .now))
 
 returns-2 : tie.Need-returns-2
+unfolding updating updateTable
 returns-2 c =
     let s = c .before .before in
-    update-none (s .args .self) (s .args .request) (s .args .now) (sym (c .before .is-clock .ensures) ∙ c .if1 .left)
+    let self = s .args .self in
+    let u = s .args .request in
+    let now = s .args .now in
+    let n : c .before .request-refusal .result ≡ first (guarded self (requestTable self u now)) = c .before .request-refusal .ensures ∙ simp (toZ-ofZ w64 _ (s .fits .now)) in
+    refused-by (guarded self (updateTable self u now)) _ _ _
+    (n ∙ sym (front-stands self (requestTable self u now) (newLineTable self u now) (λ z. c .if1 .left (n ∙ z)))) (c .if1 .left)
 
 pub update-spec : {M : Type 1} → statement M
-update-spec = tie.close (tie.spec is-clock-requires update-clock-requires returns returns-2)
+update-spec = tie.close (tie.spec (λ c κs. search needs) (λ c κs. search needs) returns returns-2)

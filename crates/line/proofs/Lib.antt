@@ -1,0 +1,7 @@
+pub mod Linear
+pub mod Casts
+pub mod Slopes
+pub mod ByParts
+pub mod FourAnswers
+pub mod Placed
+pub mod Laws

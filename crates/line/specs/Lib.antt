@@ -1,0 +1,4 @@
+pub mod Numbers
+pub mod Line
+pub mod Value
+pub mod Parts

@@ -1,0 +1,64 @@
+-- The line (R0, S0, a), its value at a time and its exact value in millionths.
+use mathlib.Core.Bool.{Bool, not, _&&_}
+use Prim.Native.Nat.{_-_}
+use lib.IntN.{ℤ, pos, negℤ, _+ℤ_, _-ℤ_, _*ℤ_}
+use lib.Signed.{leZ, _≤ℤ_}
+use Rattle.line.specs.Numbers.{million, signedEnd, floorDiv, isZero, outside}
+use Rattle.line.specs.declared.Line.{Line}
+
+-- R0 is `reference`, S0 is `synthetic`, a is `rate`
+abbrev pub line : ℤ → ℤ → ℤ → Line
+line R0 S0 a = record { reference = R0; synthetic = S0; rate = a }
+
+-- zeros, which stand where there is no line
+abbrev pub zeroLine : Line
+zeroLine = line (pos 0) (pos 0) (pos 0)
+
+-- 1,000,000 + a: millionths of a nanosecond that the line gains in each nanosecond
+abbrev pub slope : ℤ → ℤ
+slope a = pos million +ℤ a
+
+-- S0 + floor((t - R0) x (1,000,000 + a) / 1,000,000), the whole number, whatever the range (01, 'The clock we sell')
+unfoldable pub valueAt : Line → ℤ → ℤ
+valueAt l t = l .synthetic +ℤ floorDiv ((t -ℤ l .reference) *ℤ slope (l .rate)) million
+
+-- the same line in millionths, with no rounding; its floor in nanoseconds is the value
+unfoldable pub exactAt : Line → ℤ → ℤ
+exactAt l t = (l .synthetic *ℤ pos million) +ℤ ((t -ℤ l .reference) *ℤ slope (l .rate))
+
+-- (P, T(P), a): the line T with the rate a from its value at P on (01, 'The update word and its effect')
+unfoldable pub turned : Line → ℤ → ℤ → Line
+turned T P a = line P (valueAt T P) a
+
+-- ---- tests
+
+-- the line is zeros
+unfoldable pub isZeros : Line → Bool
+isZeros l = isZero (l .reference) && isZero (l .synthetic) && isZero (l .rate)
+
+-- reference and synthetic in 0..end, the rate in -widest..widest
+unfoldable pub bounded : Line → ℤ → ℤ → Bool
+bounded l end widest =
+    not (outside (pos 0) end (l .reference)) && not (outside (pos 0) end (l .synthetic)) && not (outside (negℤ widest) widest (l .rate))
+
+-- at t the line shows at least b; `leZ a b` is a ≤ b
+unfoldable pub reaches : Line → ℤ → ℤ → Bool
+reaches l t b = leZ b (valueAt l t)
+
+-- ---- what the code rests on
+
+-- between -1,000,000 and 1,000,000: a line with such a rate rises
+pub record Rising (a : ℤ) : Type 0 where
+  pub low : negℤ (pos (million - 1)) ≤ℤ a
+  pub high : a ≤ℤ pos (million - 1)
+
+-- a line whose value the code finds
+pub record Computable (l : Line) : Type 0 where
+  pub reference : pos 0 ≤ℤ l .reference
+  pub synthetic : pos 0 ≤ℤ l .synthetic
+  pub rate : Rising (l .rate)
+
+-- in 0..2^63 - 1
+pub record Held (x : ℤ) : Type 0 where
+  pub low : pos 0 ≤ℤ x
+  pub high : x ≤ℤ pos signedEnd

@@ -1,0 +1,114 @@
+-- An accepted slip is taken by the writer, and gives the same bytes.
+use mathlib.Core.Path.{_≡_, refl, sym, ap₂, _∙_, subst}
+use mathlib.Core.Bool.{Bool, true, false, not, cond, _&&_}
+use mathlib.Core.List.{List, [], _∷_}
+use Prim.Native.Nat.{ℕ, _^_, _≤_, _<_}
+use native.Mathlib.Nat.{mul-div-cancel, lt-of-lt-of-le}
+use native.Mathlib.Omega.{arith}
+use lib.Dec.{T, eqb, nltb→le, eqb→eq}
+use lib.IntN.{pos, negℤ}
+use lib.ListN.{length, take, getD}
+use lib.Pow.{pow-mono}
+use Rattle.tables.specs.Tables.{first}
+use Rattle.tables.proofs.Tables.{passed, none-applies}
+use Rattle.tables.proofs.Tests.{twice, neither}
+use Rattle.line.specs.Numbers.{outside}
+use Rattle.clock.specs.Numbers.{MAX_RATE, rateOutside}
+use Rattle.clock.specs.Clock.{Permitted}
+use Rattle.clock.specs.Update.{hasSynthetic, hasReference, hasRate, hasError, endOf, wordWrong, valuesOutside, rateTooWide}
+use Rattle.clock.specs.declared.Request.{Request}
+use Rattle.clock.proofs.Ranges.{zero-permitted}
+use Rattle.fields.specs.Bits.{bytesOf, Bytes}
+use Rattle.fields.specs.Record.{fields, packed}
+use Rattle.fields.proofs.Records.{front}
+use Rattle.slip.specs.Layout.{timeWidth, rateWidth, errorWidth, rateField, rateOf, rateFieldEnd, flaggedWidth, widths, slipLength, layout}
+use Rattle.slip.specs.Reading.{headed, valuesIn, rateIn, paddingIn, headerTable, fieldsTable, frontTable, requestOf}
+use Rattle.slip.specs.Writing.{valuesOf, slipOf}
+use Rattle.slip.proofs.Layouts.{flagged-le, total-layout, length-alike, layout-alike}
+use Rattle.slip.proofs.Rates.{field-permitted}
+use Rattle.slip.proofs.Fronts.{valuesIn-fit}
+use Rattle.slip.proofs.Writings.{Writable}
+use Rattle.round_trips.proofs.Arguments.{flagged-kept, and-fails, within, time-within, rate-again}
+use Rattle.round_trips.proofs.Fitting.{wrong-alike}
+
+-- ---- an argument as the field that it was
+
+rate-kept : (flagged : Bool) (n : ℕ) → n < 2 ^ flaggedWidth flagged rateWidth → cond flagged (rateField (cond flagged (rateOf n) (pos 0))) 0 ≡ n
+rate-kept true n h = rate-again n
+rate-kept false n h = flagged-kept false rateWidth n h
+
+rate-read : (flagged : Bool) (n : ℕ) → n ≤ rateFieldEnd → Permitted (cond flagged (rateOf n) (pos 0))
+rate-read true n h = field-permitted n h
+rate-read false n h = zero-permitted
+
+-- a field of a time, flagged or not, holds a time of its word
+time-read : (word : ℕ) (flagged : Bool) (n : ℕ) → n < 2 ^ flaggedWidth flagged (timeWidth word) → T (not (flagged && outside (pos 0) (endOf word) (pos n)))
+time-read word flagged n h =
+    and-fails flagged (outside (pos 0) (endOf word) (pos n))
+    (time-within word n (lt-of-lt-of-le h (pow-mono {j = timeWidth word} (flagged-le flagged (timeWidth word)))))
+
+six
+    : {a b c d e f a' b' c' d' e' f' : ℕ} → a ≡ a' → b ≡ b' → c ≡ c' → d ≡ d' → e ≡ e' → f ≡ f'
+    → a ∷ b ∷ c ∷ d ∷ e ∷ f ∷ [] ≡ a' ∷ b' ∷ c' ∷ d' ∷ e' ∷ f' ∷ []
+six p q r s t u = rw (p, q, r, s, t, u)
+
+-- ---- on the front of any bytes
+
+-- what the reader gives for them
+abbrev pub requestIn : List ℕ → Request
+requestIn bytes = requestOf (headed bytes) (valuesIn bytes)
+
+module _ (bytes : List ℕ) (z : first (frontTable bytes) ≡ 0) where
+  known : T (not (wordWrong (headed bytes)))
+  unfolding frontTable headerTable fieldsTable
+  known = passed 3 (frontTable bytes) tt z
+
+  -- the second of two rows that tell 18
+  pub enough : slipLength (headed bytes) ≤ length bytes
+  unfolding frontTable headerTable fieldsTable
+  enough = nltb→le (length bytes) (slipLength (headed bytes)) (none-applies (frontTable bytes) tt z .1 .1 .0)
+
+  rate-fits : rateIn (valuesIn bytes) ≤ rateFieldEnd
+  unfolding frontTable headerTable fieldsTable
+  rate-fits = nltb→le rateFieldEnd (rateIn (valuesIn bytes)) (passed 6 (frontTable bytes) tt z)
+
+  padding-zero : paddingIn (valuesIn bytes) ≡ 0
+  unfolding frontTable headerTable fieldsTable
+  padding-zero = eqb→eq (paddingIn (valuesIn bytes)) 0 (twice (eqb (paddingIn (valuesIn bytes)) 0) (passed 19 (frontTable bytes) tt z))
+
+  pub writable : Writable (requestIn bytes)
+  unfolding valuesIn layout widths fields valuesOutside rateTooWide rateOutside
+  writable =
+      let u = headed bytes in
+      let v = requestIn bytes in
+      let end = endOf (u .word) in
+      let f = valuesIn-fit bytes enough in
+      let p = rate-read (hasRate u) (rateIn (valuesIn bytes)) rate-fits in
+      record {
+        word = subst (λ (b : Bool). T (not b)) (wrong-alike u v refl) known;
+        values =
+            neither (hasSynthetic u && outside (pos 0) end (v .synthetic)) (hasReference u && outside (pos 0) end (v .reference))
+            (time-read (u .word) (hasSynthetic u) (getD (valuesIn bytes) 1 0) (f .1 .0))
+            (time-read (u .word) (hasReference u) (getD (valuesIn bytes) 2 0) (f .1 .1 .0));
+        rate = and-fails (hasRate u) (rateOutside (v .rate)) (within (negℤ MAX_RATE) MAX_RATE (v .rate) (p .low) (p .high));
+      }
+
+  values-again : valuesOf (requestIn bytes) ≡ valuesIn bytes
+  unfolding valuesOf headed valuesIn layout widths fields
+  values-again =
+      let u = headed bytes in
+      let f = valuesIn-fit bytes enough in
+      six
+      (mul-div-cancel (getD (valuesIn bytes) 0 0) (omega arith))
+      (flagged-kept (hasSynthetic u) (timeWidth (u .word)) (getD (valuesIn bytes) 1 0) (f .1 .0))
+      (flagged-kept (hasReference u) (timeWidth (u .word)) (getD (valuesIn bytes) 2 0) (f .1 .1 .0))
+      (rate-kept (hasRate u) (rateIn (valuesIn bytes)) (f .1 .1 .1 .0))
+      (flagged-kept (hasError u) errorWidth (getD (valuesIn bytes) 4 0) (f .1 .1 .1 .1 .0))
+      (sym padding-zero)
+
+  pub slip-again : Bytes bytes → slipOf (requestIn bytes) ≡ take (slipLength (headed bytes)) bytes
+  unfolding slipOf valuesIn
+  slip-again hb =
+      let u = headed bytes in
+      let v = requestIn bytes in
+      ap₂ bytesOf (length-alike v u refl) (ap₂ packed (layout-alike v u refl) values-again) ∙ front (layout u) bytes (slipLength u) hb (total-layout u) enough

@@ -1,0 +1,51 @@
+-- A table of refusals: numbered tests in the order in which they are made, and the answer that it gives.
+use mathlib.Core.Bool.{Bool, true, false, not, cond}
+use mathlib.Core.List.{List, [], _∷_}
+use mathlib.Core.Logic.{_⊎_}
+use mathlib.Core.Path.{_≡_}
+use Prim.Native.Nat.{ℕ, zero, suc}
+use lib.Dec.{T, eqb}
+
+-- the refusal n applies where the test holds
+infix 68 _when_
+pub data Row : Type 0 where
+  _when_ : ℕ → Bool → Row
+
+-- the number of the first row that applies, 0 where none does (01, 'When the clock says no')
+abbrev pub first : List Row → ℕ
+first [] = 0
+first ((n when true) ∷ rows) = n
+first ((n when false) ∷ rows) = first rows
+
+-- ---- the answer that a table gives
+
+-- 0 is no refusal
+abbrev pub answerTo : {A : Type 0} → ℕ → A → (ℕ → A) → A
+answerTo zero taken refused = taken
+answerTo (suc n) taken refused = refused (suc n)
+
+-- `taken` where no row applies, else `refused` with the number of the first row that does
+abbrev pub answer : {A : Type 0} → List Row → A → (ℕ → A) → A
+answer rows taken refused = answerTo (first rows) taken refused
+
+-- ---- the same said of any answer, with no number that stands for none
+
+abbrev pub NoneApplies : List Row → Type 0
+NoneApplies [] = Unit {0}
+NoneApplies ((n when b) ∷ rows) = T (not b) × NoneApplies rows
+
+-- the first row that applies has the number n
+abbrev pub FirstApplies : List Row → ℕ → Type 0
+FirstApplies [] n = ⊥
+FirstApplies ((m when true) ∷ rows) n = m ≡ n
+FirstApplies ((m when false) ∷ rows) n = FirstApplies rows n
+
+abbrev pub Settled : {A : Type 0} → List Row → A → A → (ℕ → A) → Type 0
+Settled rows told taken refused =
+    (NoneApplies rows × (told ≡ taken)) ⊎ ((n : ℕ) × FirstApplies rows n × (told ≡ refused n))
+
+-- ---- a table walked from its head, as the code does
+
+-- what was told so far stands, else the row tells
+unfoldable pub nextOf : ℕ → Bool → ℕ → ℕ
+nextOf r test n = cond (eqb r 0) (cond test n 0) r
