@@ -20,5 +20,5 @@ orZeros (some c) = c
 -- creation's answer as a struct: in C there is no enum that carries a clock
 unfoldable pub creatingFor : ℕ → ℤ → ℤ → Created
 creatingFor word backstop now =
-    let answer = creating word backstop now in
-    record { clock = orZeros (answer .clock); refusal = answer .refusal }
+    let made = creating word backstop now in
+    record { clock = orZeros (made .clock); refusal = made .refusal }

@@ -1,7 +1,8 @@
-// The clock's and the slips' operations for callers in C and Rust, over numbers, structs of numbers and lent bytes. include/cementoad.h
-// declares them. Anything may be handed in: each operation tests for itself whether it is handed a clock.
+// The clock's and the slips' operations for callers in C and Rust, over numbers, structs of numbers and lent bytes.
+// include/cementoad.h declares them. Anything may be handed in: each operation tests for itself whether it is handed a
+// clock.
 ghost use mathlib.Core.Path.{_≡_};
-ghost use Rattle.slip.specs.Layout.{asking, slipLength};
+ghost use Rattle.slip.specs.Layout.{bare, slipLength};
 ghost use Rattle.slip.specs.Reading.{readingSlip};
 ghost use Rattle.slip.specs.Writing.{writing, outcome};
 ghost use Rattle.clock.specs.Reading.{reading};
@@ -95,7 +96,7 @@ pub extern "C" fn cementoad_write_slip(request: Request, buffer: &mut [u8]) -> W
 
 #[no_mangle]
 pub extern "C" fn cementoad_slip_length(word: u64) -> usize
-    ensures { λ r. ⌜ r ≡ slipLength (asking word) ⌝ }
+    ensures { λ r. ⌜ r ≡ slipLength (bare word) ⌝ }
 {
     slip::slip_length(word)
 }

@@ -1,25 +1,23 @@
 -- Creation gives what is taken for a clock, and every call leaves it so.
 use mathlib.Core.Path.{subst, subst⁻¹}
 use mathlib.Core.Bool.{Bool, true, false, not, _&&_, _||_}
-use mathlib.Core.List.{List, [], _∷_}
 use lib.IntN.{ℤ}
-use lib.Signed.{ltZ, _≤ℤ_}
+use lib.Signed.{_≤ℤ_}
 use lib.Dec.{T}
 use Rattle.tables.proofs.Tests.{neither-left, fails-second, other, by-cases}
 use Rattle.line.specs.Line.{valueAt, reaches}
-use Rattle.clock.specs.Numbers.{END, timeOutside}
-use Rattle.clock.specs.Clock.{isRunning, oldLine, InRange, Drawable, Valid}
+use Rattle.clock.specs.Clock.{isRunning, oldLine, Drawable, Valid}
 use Rattle.clock.specs.Taken.{isClock}
 use Rattle.clock.specs.Update.{hasSynthetic, hasRate, replaces, newLine, updated}
-use Rattle.clock.specs.Calls.{Call, update, ask, accepted, after, afterAll}
+use Rattle.clock.specs.Calls.{Call, update, ask, accepted, after}
 use Rattle.clock.specs.declared.Clock.{Clock}
 use Rattle.clock.specs.declared.Request.{Request}
 use Rattle.clock.proofs.Ranges.{not-less, in-range}
 use Rattle.clock.proofs.Requests.{point-in-range, rate-permitted}
 use Rattle.clock.proofs.Values.{running-old-value, above-backstop}
 use Rattle.clock.proofs.Taken.{byte-is, taken-valid, taken-created, line-drawable, later-created, running-taken}
-use Rattle.clock.proofs.NewLine.{Begins, new-begins, new-kept, passed-in-range}
-use Rattle.clock.proofs.Rows.{call-passed, either-way, row1, row2, row5, row6, row8, row12, row13}
+use Rattle.clock.proofs.NewLine.{new-begins, new-kept, passed-in-range}
+use Rattle.clock.proofs.Rows.{call-passed, either-way, Passed, passed-rows}
 
 -- ---- an accepted update
 
@@ -31,12 +29,15 @@ module _ (c : Clock) (u : Request) (now : ℤ) (t : T (accepted c (update u now)
   pub updates-valid : Valid c
   updates-valid = taken-valid c updates-clock
 
+  rows : Passed c u now
+  rows = passed-rows c u now t
+
   pub not-early : c .latest ≤ℤ now
-  not-early = not-less now (c .latest) (row2 c u now t)
+  not-early = not-less now (c .latest) (rows .row2)
 
   -- by row 8 the clock was started, or is so now
   started-or-set : T (isRunning c || hasSynthetic u)
-  started-or-set = go (isRunning c) (hasSynthetic u) (row8 c u now t)
+  started-or-set = go (isRunning c) (hasSynthetic u) (rows .row8)
     where
       go : (started s : Bool) → T (not (not started && not s)) → T (started || s)
       go true s r = tt
@@ -53,8 +54,8 @@ module _ (c : Clock) (u : Request) (now : ℤ) (t : T (accepted c (update u now)
   pub new-drawable : Drawable (newLine c u now)
   new-drawable =
       let v = updates-valid in
-      let b = new-begins c u now v (point-in-range u (row5 c u now t) now (in-range now (row1 c u now t))) (rate-permitted u (row6 c u now t)) in
-      record { reference = b .reference; synthetic = passed-in-range c u now v (row12 c u now t); rate = b .rate }
+      let b = new-begins c u now v (point-in-range u (rows .row5) now (in-range now (rows .row1))) (rate-permitted u (rows .row6)) in
+      record { reference = b .reference; synthetic = passed-in-range c u now v (rows .row12); rate = b .rate }
 
   -- the new line is at least b at now if it is where it replaces the old one, and if the old one is where that stays
   pub new-at-least : (b : ℤ) → (T (replaces u) → b ≤ℤ valueAt (newLine c u now) now) →
@@ -64,7 +65,7 @@ module _ (c : Clock) (u : Request) (now : ℤ) (t : T (accepted c (update u now)
   pub new-above-backstop : c .backstop ≤ℤ valueAt (newLine c u now) now
   new-above-backstop =
       new-at-least (c .backstop)
-      (λ r. not-less _ (c .backstop) (fails-second (replaces u) _ r (row13 c u now t)))
+      (λ r. not-less _ (c .backstop) (fails-second (replaces u) _ r (rows .row13)))
       (λ n. subst (λ (x : ℤ). c .backstop ≤ℤ x) (running-old-value c now (unreplaced-started n)) (above-backstop c now updates-valid not-early))
 
   -- its word and backstop are still as creation takes them
@@ -72,7 +73,7 @@ module _ (c : Clock) (u : Request) (now : ℤ) (t : T (accepted c (update u now)
   unfolding reaches updated
   updated-clock =
       running-taken (updated c u now) updated-started
-      (later-created (c .word) (c .backstop) (c .latest) now (taken-created c updates-clock) (row1 c u now t) not-early)
+      (later-created (c .word) (c .backstop) (c .latest) now (taken-created c updates-clock) (rows .row1) not-early)
       (line-drawable (updated c u now .line) new-drawable)
       (new-above-backstop .le)
 

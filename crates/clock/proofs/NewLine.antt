@@ -2,9 +2,9 @@
 -- rules 12 to 14 say.
 use mathlib.Core.Bool.{Bool, true, false, not, cond, _&&_, _||_}
 use mathlib.Core.List.{List, [], _∷_}
-use mathlib.Core.Path.{_≡_, refl, sym, ap, _∙_, subst⁻¹}
+use mathlib.Core.Path.{_≡_, refl, sym, ap, subst⁻¹}
 use lib.Dec.{T}
-use lib.IntN.{ℤ, pos}
+use lib.IntN.{ℤ}
 use lib.Signed.{ltZ}
 use Rattle.tables.specs.Tables.{Row, _when_, first}
 use Rattle.tables.proofs.Tests.{neither-left, neither-right, fails-second, by-cases}
@@ -25,7 +25,7 @@ use Rattle.clock.specs.Taken.{isClock, guarded}
 use Rattle.clock.specs.Parts.{Judged}
 use Rattle.clock.specs.declared.Clock.{Clock}
 use Rattle.clock.specs.declared.Request.{Request}
-use Rattle.clock.proofs.Ranges.{not-less, in-range, end-held, range-held, rises, computable}
+use Rattle.clock.proofs.Ranges.{not-less, in-range, end-storable, range-storable, rises, computable}
 use Rattle.clock.proofs.Requests.{old-drawable}
 use Rattle.clock.proofs.Guarded.{guarded-passed, rest-decides}
 
@@ -79,8 +79,8 @@ effect-kept false false T₀ P S new n = refl
 -- a value in range is drawn
 pub set-drawn : (a : Bool) (T₀ : Line) (P S new : ℤ) → InRange S → Drawn (line P S (cond a new (T₀ .rate))) ≡ held (effect true a T₀ P S new)
 unfolding effect
-set-drawn true T₀ P S new i = sym (drawn-in (line P S new) (range-held i))
-set-drawn false T₀ P S new i = sym (drawn-in (line P S (T₀ .rate)) (range-held i))
+set-drawn true T₀ P S new i = sym (drawn-in (line P S new) (range-storable i))
+set-drawn false T₀ P S new i = sym (drawn-in (line P S (T₀ .rate)) (range-storable i))
 
 pub turned-drawn : (T₀ : Line) (P S new : ℤ) → held (turned T₀ P new) ≡ held (effect false true T₀ P S new)
 unfolding effect
@@ -88,7 +88,7 @@ turned-drawn T₀ P S new = refl
 
 pub kept-drawn : (T₀ : Line) (P S new : ℤ) → Drawable T₀ → Drawn T₀ ≡ held (effect false false T₀ P S new)
 unfolding effect
-kept-drawn T₀ P S new o = sym (drawn-in T₀ (range-held (o .synthetic)))
+kept-drawn T₀ P S new o = sym (drawn-in T₀ (range-storable (o .synthetic)))
 
 -- ---- the new line
 
@@ -111,7 +111,7 @@ module _ (c : Clock) (u : Request) (now : ℤ) where
       (λ h. record { reference = b .reference .low; synthetic = h .low; rate = rises (b .rate) }) (computable (old-drawable c v))
 
   pub found-new : InRange (new .synthetic) → lineOr (held new) (oldLine c) ≡ new
-  found-new i = ap (λ (r : Redrawn). lineOr r (oldLine c)) (drawn-in new (range-held i))
+  found-new i = ap (λ (r : Redrawn). lineOr r (oldLine c)) (drawn-in new (range-storable i))
 
   -- what rule 12 lets pass begins in the range
   pub passed-in-range : Valid c → T (not (replaces u && (timeOutside (new .synthetic) || ltZ END (valueAt new now)))) → InRange (new .synthetic)
@@ -153,24 +153,24 @@ module _ (c : Clock) (u : Request) (now : ℤ) (v : Valid c) where
 
   beyond-is : isBeyond (held drawn) END ≡ timeOutside (drawn .synthetic)
   unfolding timeOutside outside
-  beyond-is = beyond-law (drawn .reference) (drawn .synthetic) (drawn .rate) END end-held
+  beyond-is = beyond-law (drawn .reference) (drawn .synthetic) (drawn .rate) END end-storable
 
   row12 : (isBeyond (held drawn) END || isOver (placed (valueAt found now)) END) ≡ (timeOutside (drawn .synthetic) || ltZ END value)
   row12 = rw beyond-is (or-agree (timeOutside (drawn .synthetic)) (isOver (placed (valueAt found now)) END) (ltZ END value)
-      (λ n. rw (same (in-range (drawn .synthetic) n)) (over-law value END end-held)))
+      (λ n. rw (same (in-range (drawn .synthetic) n)) (over-law value END end-storable)))
 
   module _ (r : T (replaces u)) (n : T (not (replaces u && (timeOutside (drawn .synthetic) || ltZ END value)))) where
     begun : InRange (drawn .synthetic)
     begun = passed-in-range c u now v n
 
     row13 : isUnder (placed (valueAt found now)) (c .backstop) ≡ ltZ value (c .backstop)
-    row13 = rw (same begun) (under-law value (c .backstop) (range-held (v .backstop)))
+    row13 = rw (same begun) (under-law value (c .backstop) (range-storable (v .backstop)))
 
     row14 : T (not (replaces u && ltZ value (c .backstop))) → isLess (placed (valueAt found now)) (placed (valueAt (oldLine c) now)) ≡ ltZ value (valueAt (oldLine c) now)
     row14 m =
         let high = not-less END value (neither-right (timeOutside (drawn .synthetic)) (ltZ END value) (fails-second (replaces u) (timeOutside (drawn .synthetic) || ltZ END value) r n)) in
         let low = not-less value (c .backstop) (fails-second (replaces u) (ltZ value (c .backstop)) r m) in
-        rw (same begun) (less-law value (valueAt (oldLine c) now) (range-held (record { low = ≤ℤ-trans (v .backstop .low) low; high = high })))
+        rw (same begun) (less-law value (valueAt (oldLine c) now) (range-storable (record { low = ≤ℤ-trans (v .backstop .low) low; high = high })))
 
   -- the code's tests of 13 and 14 are the rules' where no earlier row applies
   pub judged-alike : Alike (judgedTable c u now (held drawn) found (oldLine c)) (newLineTable c u now)

@@ -1,12 +1,12 @@
 -- A reading as the code finds it: refusals 1 and 2 first, then the value as an i64 sees it.
 use mathlib.Core.Bool.{Bool, true, false, not, cond}
-use mathlib.Core.List.{List, [], _∷_}
+use mathlib.Core.List.{[], _∷_}
 use mathlib.Core.Path.{_≡_, refl, sym, ap, _∙_}
 use Prim.Native.Nat.{ℕ}
-use lib.Dec.{T, ltb}
-use lib.IntN.{ℤ, pos, negsuc}
+use lib.Dec.{T}
+use lib.IntN.{ℤ, pos}
 use lib.Signed.{ltZ, _≤ℤ_}
-use Rattle.tables.specs.Tables.{Row, _when_, first, answerTo, answer}
+use Rattle.tables.specs.Tables.{_when_, first, answerTo, answer}
 use Rattle.tables.proofs.Tables.{passed}
 use Rattle.line.specs.Value.{placed, numberOf}
 use Rattle.line.proofs.Linear.{≤ℤ-trans}
@@ -18,7 +18,7 @@ use Rattle.clock.specs.Reading.{clockValue, readingTable, reading}
 use Rattle.clock.specs.Parts.{readOf}
 use Rattle.clock.specs.declared.Clock.{Clock}
 use Rattle.clock.specs.declared.Reading.{Reading}
-use Rattle.clock.proofs.Ranges.{not-less, in-range, end-held, range-held}
+use Rattle.clock.proofs.Ranges.{not-less, in-range, end-storable, range-storable}
 use Rattle.clock.proofs.Values.{above-backstop}
 use Rattle.clock.proofs.Guarded.{guarded-passed, rest-decides}
 use Rattle.clock.proofs.Taken.{taken-valid}
@@ -41,7 +41,7 @@ abbrev lastAnswer : Bool → ℤ → Reading
 lastAnswer over z = answer (12 when over ∷ []) (record { refusal = 0; value = z }) (λ n. record { refusal = n; value = pos 0 })
 
 answered : (z : ℤ) → pos 0 ≤ℤ z → readOf (placed z) ≡ lastAnswer (ltZ END z) z
-answered z h = rw (over-law z END end-held) (as-told (ltZ END z) ∙ go (ltZ END z) (λ t. number-in z (range-held (record { low = h; high = not-less END z t }))))
+answered z h = rw (over-law z END end-storable) (as-told (ltZ END z) ∙ go (ltZ END z) (λ t. number-in z (range-storable (record { low = h; high = not-less END z t }))))
   where
     as-told : (b : Bool) → cond {A = Reading} b (record { refusal = 12; value = pos 0 }) (record { refusal = 0; value = numberOf (placed z) }) ≡ lastAnswer b (numberOf (placed z))
     as-told true = refl

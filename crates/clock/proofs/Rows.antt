@@ -3,11 +3,11 @@ use mathlib.Core.Path.{_≡_, sym, _∙_, subst⁻¹}
 use mathlib.Core.Bool.{Bool, true, false, not, _&&_, _||_}
 use Prim.Native.Nat.{ℕ}
 use lib.IntN.{ℤ}
-use lib.Signed.{ltZ, _≤ℤ_}
+use lib.Signed.{ltZ}
 use lib.Dec.{T, eqb, eqb→eq}
 use borrow.Author.Tests.{ne-eqb}
 use Rattle.tables.specs.Tables.{first}
-use Rattle.tables.proofs.Tables.{test, numbered, passed, lacks, by-answer}
+use Rattle.tables.proofs.Tables.{test, passed, lacks, by-answer}
 use Rattle.line.specs.Line.{valueAt}
 use Rattle.clock.specs.Numbers.{END, timeOutside}
 use Rattle.clock.specs.Clock.{isRunning, monotonic, continuous, oldLine, timeTable}
@@ -59,52 +59,32 @@ either-way P c u now taken refused =
 
 -- ---- an update
 
-module _ (c : Clock) (u : Request) (now : ℤ) where
-  pub update-numbered : T (numbered (updateTable c u now))
-  unfolding timeTable requestTable newLineTable updateTable
-  update-numbered = tt
+-- what the rows leave known
+pub record Passed (c : Clock) (u : Request) (now : ℤ) : Type 0 where
+  pub row1 : T (not (timeOutside now))
+  pub row2 : T (not (ltZ now (c .latest)))
+  pub row5 : T (not (valuesOutside u))
+  pub row6 : T (not (rateTooWide u))
+  pub row8 : T (not (not (isRunning c) && not (hasSynthetic u)))
+  pub row9 : T (not (continuous (c .word) && hasReference u))
+  pub row10 : T (not (continuous (c .word) && isRunning c && hasSynthetic u))
+  pub row12 : T (not (replaces u && (timeOutside (newLine c u now .synthetic) || ltZ END (valueAt (newLine c u now) now))))
+  pub row13 : T (not (replaces u && ltZ (valueAt (newLine c u now) now) (c .backstop)))
+  pub row14 : T (not (replaces u && (monotonic (c .word) && isRunning c && ltZ (valueAt (newLine c u now) now) (valueAt (oldLine c) now))))
 
-  module _ (t : T (accepted c (update u now))) where
-    fetched : (k : ℕ) → T (not (test k (updateTable c u now)))
-    unfolding callTable
-    fetched k = passed k (updateTable c u now) update-numbered (call-passed c (update u now) t .1)
-
-    pub row1 : T (not (timeOutside now))
-    unfolding timeTable requestTable newLineTable updateTable
-    row1 = fetched 1
-
-    pub row2 : T (not (ltZ now (c .latest)))
-    unfolding timeTable requestTable newLineTable updateTable
-    row2 = fetched 2
-
-    pub row5 : T (not (valuesOutside u))
-    unfolding timeTable requestTable newLineTable updateTable
-    row5 = fetched 5
-
-    pub row6 : T (not (rateTooWide u))
-    unfolding timeTable requestTable newLineTable updateTable
-    row6 = fetched 6
-
-    pub row8 : T (not (not (isRunning c) && not (hasSynthetic u)))
-    unfolding timeTable requestTable newLineTable updateTable
-    row8 = fetched 8
-
-    pub row9 : T (not (continuous (c .word) && hasReference u))
-    unfolding timeTable requestTable newLineTable updateTable
-    row9 = fetched 9
-
-    pub row10 : T (not (continuous (c .word) && isRunning c && hasSynthetic u))
-    unfolding timeTable requestTable newLineTable updateTable
-    row10 = fetched 10
-
-    pub row12 : T (not (replaces u && (timeOutside (newLine c u now .synthetic) || ltZ END (valueAt (newLine c u now) now))))
-    unfolding timeTable requestTable newLineTable updateTable
-    row12 = fetched 12
-
-    pub row13 : T (not (replaces u && ltZ (valueAt (newLine c u now) now) (c .backstop)))
-    unfolding timeTable requestTable newLineTable updateTable
-    row13 = fetched 13
-
-    pub row14 : T (not (replaces u && (monotonic (c .word) && isRunning c && ltZ (valueAt (newLine c u now) now) (valueAt (oldLine c) now))))
-    unfolding timeTable requestTable newLineTable updateTable
-    row14 = fetched 14
+pub passed-rows : (c : Clock) (u : Request) (now : ℤ) → T (accepted c (update u now)) → Passed c u now
+unfolding timeTable requestTable newLineTable updateTable callTable
+passed-rows c u now t =
+    let fetched : (k : ℕ) → T (not (test k (updateTable c u now))) = λ k. passed k (updateTable c u now) tt (call-passed c (update u now) t .1) in
+    record {
+      row1 = fetched 1;
+      row2 = fetched 2;
+      row5 = fetched 5;
+      row6 = fetched 6;
+      row8 = fetched 8;
+      row9 = fetched 9;
+      row10 = fetched 10;
+      row12 = fetched 12;
+      row13 = fetched 13;
+      row14 = fetched 14;
+    }

@@ -1,9 +1,9 @@
 -- What is taken for a clock: what is known of it, and what is enough.
-use mathlib.Core.Path.{_≡_, refl, ap, subst, subst⁻¹}
+use mathlib.Core.Path.{_≡_, refl, subst, subst⁻¹}
 use mathlib.Core.Bool.{Bool, true, false, not, cond, _&&_}
 use Prim.Native.Nat.{ℕ, zero, suc, _≤_}
 use native.Mathlib.Omega.{arith}
-use lib.IntN.{ℤ, pos, negsuc, negℤ}
+use lib.IntN.{ℤ, pos, negℤ}
 use lib.Signed.{ltZ, leZ, _≤ℤ_}
 use lib.Dec.{T, eqb, leb, leb→le, eqb→eq}
 use Rattle.tables.proofs.Tests.{is-true, is-false, if-true, if-false, both, and-left, and-right, by-cases}

@@ -1,4 +1,5 @@
--- The clock: what its creation word and its started byte say, its old line, refusals 1 and 2, and what the operations rest on.
+-- The clock: what its creation word and its started byte say, its old line, refusals 1 and 2, and what the operations
+-- rest on.
 use mathlib.Core.Bool.{Bool, cond}
 use mathlib.Core.List.{List, [], _∷_}
 use Prim.Native.Nat.{ℕ}
@@ -33,11 +34,12 @@ isRunning c = eqb (c .started) 1
 abbrev pub identity : Line
 identity = line (pos 0) (pos 0) (pos 0)
 
--- T, the old line of an update; before the start the identity line, since 'old a is 0 before the start' (01, the effect table)
+-- the old line of an update, T of the effect table; before the start the identity line, whose rate is 0 (01, 'The
+-- update word and its effect')
 unfoldable pub oldLine : Clock → Line
 oldLine c = cond (isRunning c) (c .line) identity
 
--- refusals 1 and 2, of a call at now: outside 0..END; before the latest accepted update, or creation. `ltZ a b` is a < b
+-- refusals 1 and 2, of a call at now: outside 0..END; before the latest accepted update or, without one, creation
 unfoldable pub timeTable : Clock → ℤ → List Row
 timeTable c now =
     (1 when timeOutside now

@@ -13,11 +13,11 @@ use Rattle.clock.specs.declared.Clock.{Clock}
 use Rattle.clock.specs.declared.Created.{Created}
 use Rattle.clock.specs.declared.Created.the-variants.{Made, Refused}
 
--- all bits of the 8-bit word but the three flags are zero
+-- no bit of the 8-bit word is set but those of the three flags
 abbrev pub othersZero : ℕ → Bool
 othersZero word = eqb (word % 32) 0 && eqb (word / 256) 0
 
--- 'Creation: 1; 3 for an unknown bit; 15 ..' (01, 'When the clock says no'); `ltZ a b` is a < b
+-- creation's rows (01, 'When the clock says no'); 3 is an unknown bit
 unfoldable pub creationTable : ℕ → ℤ → ℤ → List Row
 creationTable word backstop now =
     (1 when timeOutside now
@@ -30,18 +30,22 @@ creationTable word backstop now =
 unfoldable pub creationRefusal : ℕ → ℤ → ℤ → ℕ
 creationRefusal word backstop now = first (creationTable word backstop now)
 
--- an error bound of all ones means unknown
+-- 64 ones
 abbrev pub UNKNOWN_ERROR : ℕ
 UNKNOWN_ERROR = 2 ^ 64 - 1
 
--- unless auto start is set the clock isn't started; auto start gives the line (0, 0, 0) at once; generation starts at 1 (01, 'Creation')
+-- what the generation counts from
+abbrev pub FIRST_GENERATION : ℕ
+FIRST_GENERATION = 1
+
+-- the line stands ready, but runs only with auto start (01, 'Creation')
 unfoldable pub created : ℕ → ℤ → ℤ → Clock
 created word backstop now = record {
   line = identity;
   backstop = backstop;
   latest = now;
   error = UNKNOWN_ERROR;
-  generation = 1;
+  generation = FIRST_GENERATION;
   word = word;
   started = byteOf (autoStart word);
 }

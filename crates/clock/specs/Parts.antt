@@ -41,8 +41,8 @@ clearlyRuns c =
     && leZ (c .line .reference) (c .latest)
     && leZ (c .backstop) (c .line .synthetic)
 
--- what rules 12 to 14 are judged by: the new line as it was drawn, the line whose value stands for the new one's, and the
--- old line
+-- what rules 12 to 14 are judged by: the new line as it was drawn, the line whose value stands for the new one's, and
+-- the old line
 pub record Judged (c : Clock) (u : Request) (now : ℤ) (redrawn : Redrawn) (l old : Line) : Type 0 where
   pub clock : Valid c
   pub time : InRange now

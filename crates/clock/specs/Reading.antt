@@ -11,11 +11,11 @@ use Rattle.clock.specs.Taken.{guarded}
 use Rattle.clock.specs.declared.Clock.{Clock}
 use Rattle.clock.specs.declared.Reading.{Reading}
 
--- not started, the backstop; else the line's value (01, 'Reading')
+-- before the start a clock shows its backstop, then its line (01, 'Reading')
 unfoldable pub clockValue : Clock → ℤ → ℤ
 clockValue c now = cond (isRunning c) (valueAt (c .line) now) (c .backstop)
 
--- 1, 2, then 12 if the value at now is above END (01, 'When the clock says no')
+-- a reading's rows (01, 'When the clock says no')
 unfoldable pub readingTable : Clock → ℤ → List Row
 readingTable c now = timeTable c now ++ (12 when ltZ END (clockValue c now) ∷ [])
 

@@ -20,7 +20,7 @@ use Rattle.clock.specs.declared.Updated.{Updated}
 
 -- ---- the update word: version 6 bits; synthetic, reference, rate, error; 54 zero bits
 
--- the version must be 2
+-- the one version there is
 abbrev pub versionKnown : ℕ → Bool
 versionKnown word = eqb (word / 2 ^ 58) 2
 
@@ -45,23 +45,23 @@ endOf word = END
 
 -- ---- rules 3, 5 and 6, which speak of the request alone
 
--- version not 2, or a zero bit set
+-- another version, or one of the 54 bits that are to be zero
 unfoldable pub wordWrong : Request → Bool
 wordWrong u = not (versionKnown (u .word)) || not (eqb (u .word % 2 ^ 54) 0)
 
--- flagged synthetic or reference outside 0..END
+-- a synthetic or reference argument that counts lies outside the range
 unfoldable pub valuesOutside : Request → Bool
 valuesOutside u =
     (hasSynthetic u && outside (pos 0) (endOf (u .word)) (u .synthetic))
     || (hasReference u && outside (pos 0) (endOf (u .word)) (u .reference))
 
--- flagged rate outside -1000..1000
+-- a rate that counts is wider than permitted
 unfoldable pub rateTooWide : Request → Bool
 rateTooWide u = hasRate u && rateOutside (u .rate)
 
 -- ---- the new line
 
--- P: the reference argument if flagged, else now (01, 'The update word and its effect')
+-- P of the effect table (01, 'The update word and its effect')
 unfoldable pub point : Request → ℤ → ℤ
 point u now = cond (hasReference u) (u .reference) now
 
@@ -82,7 +82,7 @@ newLine c u now = effect (hasSynthetic u) (hasRate u) (oldLine c) (point u now) 
 
 -- ---- the refusals
 
--- the table of 01, 'When the clock says no', row by row; `ltZ a b` is a < b. First the rows of time, request and clock
+-- the table of 01, 'When the clock says no', row by row. First the rows of time, request and clock
 unfoldable pub requestTable : Clock → Request → ℤ → List Row
 requestTable c u now =
     let isMonotonic = monotonic (c .word) in
@@ -115,11 +115,11 @@ updateTable c u now = requestTable c u now ++ newLineTable c u now
 
 -- ---- the clock that an accepted update leaves
 
--- up by one, from 2^32 - 1 to 0, when the line is replaced, also by an equal one
+-- it counts the replacements of the line, in 32 bits
 unfoldable pub nextGeneration : Bool → ℕ → ℕ
 nextGeneration replaced generation = cond replaced ((generation + 1) % 2 ^ 32) generation
 
--- the first accepted synthetic value starts the clock for good; a flagged error bound is stored; the latest update time becomes now
+-- word and backstop stay; once started, it stays so (01, 'The update word and its effect')
 unfoldable pub updated : Clock → Request → ℤ → Clock
 updated c u now = record {
   line = newLine c u now;
@@ -140,7 +140,7 @@ updating c u now =
 
 -- ---- requests that ask for the same
 
--- the same word and flagged arguments
+-- the same word, and the same in every argument that counts; `T b` says that b holds
 pub record SameRequest (u v : Request) : Type 0 where
   pub word : u .word ≡ v .word
   pub synthetic : T (hasSynthetic u) → u .synthetic ≡ v .synthetic

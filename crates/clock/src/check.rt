@@ -77,6 +77,9 @@ impl Clock {
         let auto = has(self.word, Clock::AUTO_START);
         let line = self.line;
         let identity = line.is_zeros();
-        !auto & identity & (self.error == Clock::UNKNOWN_ERROR) & (self.generation == 1)
+        !auto
+            & identity
+            & (self.error == Clock::UNKNOWN_ERROR)
+            & (self.generation == Clock::FIRST_GENERATION)
     }
 }

@@ -123,6 +123,8 @@ impl Clock {
     // The error bound that means unknown.
     pub const UNKNOWN_ERROR: u64 = u64::MAX;
 
+    pub const FIRST_GENERATION: u32 = 1;
+
     // The bits of a creation word.
     pub const MONOTONIC: u8 = 128;
 
@@ -157,7 +159,7 @@ impl Clock {
         }
     }
 
-    // A clock, or a refusal. Unless auto start is set the clock isn't started.
+    // A clock, or a refusal. With auto start it runs at once.
     pub fn create(word: u8, backstop: i64, now: i64) -> Created
         ensures { λ r. ⌜ told r ≡ creating word backstop now ⌝ }
     {
@@ -428,7 +430,7 @@ fn new_clock(word: u8, backstop: i64, now: i64) -> Clock
         backstop,
         latest: now,
         error: Clock::UNKNOWN_ERROR,
-        generation: 1,
+        generation: Clock::FIRST_GENERATION,
         word,
         started,
     }

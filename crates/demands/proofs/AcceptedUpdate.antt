@@ -14,7 +14,7 @@ use Rattle.clock.specs.Calls.{update, accepted}
 use Rattle.clock.specs.declared.Clock.{Clock}
 use Rattle.clock.specs.declared.Request.{Request}
 use Rattle.clock.proofs.Ranges.{not-less}
-use Rattle.clock.proofs.Rows.{row9, row10, row14}
+use Rattle.clock.proofs.Rows.{passed-rows}
 use Rattle.clock.proofs.Clocks.{new-at-least}
 
 -- a line turned at now has its old value there
@@ -32,16 +32,16 @@ module _ (c : Clock) (u : Request) (now : ℤ) (t : T (accepted c (update u now)
       replaced : T (replaces u) → valueAt (oldLine c) now ≤ℤ valueAt (newLine c u now) now
       replaced r =
           let running = both (monotonic (c .word)) (isRunning c) m s in
-          not-less _ (valueAt (oldLine c) now) (fails-second (monotonic (c .word) && isRunning c) _ running (fails-second (replaces u) _ r (row14 c u now t)))
+          not-less _ (valueAt (oldLine c) now) (fails-second (monotonic (c .word) && isRunning c) _ running (fails-second (replaces u) _ r (passed-rows c u now t .row14)))
 
   -- a running continuous clock is at most turned, and that at now
   pub new-agrees : T (continuous (c .word)) → T (isRunning c) → valueAt (newLine c u now) now ≡ valueAt (oldLine c) now
   unfolding newLine point
-  new-agrees k s = go (hasReference u) (fails-second (continuous (c .word)) (hasReference u) k (row9 c u now t))
+  new-agrees k s = go (hasReference u) (fails-second (continuous (c .word)) (hasReference u) k (passed-rows c u now t .row9))
     where
       go : (p : Bool) → T (not p) →
           valueAt (effect (hasSynthetic u) (hasRate u) (oldLine c) (cond p (u .reference) now) (u .synthetic) (u .rate)) now ≡ valueAt (oldLine c) now
       go true n = absurd n
       go false n =
           effect-turned (hasSynthetic u) (hasRate u) (oldLine c) (u .synthetic) (u .rate) now
-          (fails-second (continuous (c .word) && isRunning c) (hasSynthetic u) (both (continuous (c .word)) (isRunning c) k s) (row10 c u now t))
+          (fails-second (continuous (c .word) && isRunning c) (hasSynthetic u) (both (continuous (c .word)) (isRunning c) k s) (passed-rows c u now t .row10))

@@ -1,17 +1,16 @@
 -- Demand 1: each answer is what its table says, and what is refused leaves the clock as it was and answers zeros.
-use mathlib.Core.Path.{_≡_, refl, sym, _∙_, subst, subst⁻¹}
-use mathlib.Core.Bool.{Bool, not}
+use mathlib.Core.Path.{_≡_, refl, sym, subst}
+use mathlib.Core.Bool.{not}
 use Prim.Native.Nat.{ℕ}
 use lib.Dec.{T, eqb}
-use Rattle.tables.specs.Tables.{first}
 use Rattle.tables.proofs.Tables.{settled, refused-by}
 use Rattle.clock.specs.Clock.{timeTable}
-use Rattle.clock.specs.Taken.{isClock, guarded}
+use Rattle.clock.specs.Taken.{guarded}
 use Rattle.clock.specs.Creation.{creationTable, creating}
 use Rattle.clock.specs.Reading.{readingTable, reading}
 use Rattle.clock.specs.Update.{requestTable, newLineTable, updateTable, updating}
 use Rattle.clock.specs.Details.{detailsTable, detailing}
-use Rattle.clock.specs.Calls.{Ask, read, details, askTable, Call, update, ask, callTable, refusalOf, accepted, after}
+use Rattle.clock.specs.Calls.{read, details, askTable, Call, update, ask, callTable, refusalOf, accepted, after}
 use Rattle.clock.specs.declared.Clock.{Clock}
 use Rattle.clock.proofs.Guarded.{guarded-settled}
 use Rattle.clock.proofs.Rows.{refusal-is, either-way}

@@ -30,10 +30,10 @@ use Rattle.demands.proofs.Walks.{of-each, of-any}
 use Rattle.demands.proofs.Demand1Proof.{demand1·clock}
 use Rattle.demands.proofs.KeptProof.{creation-gives-clock, created-kept, after-kept, always-kept, reading-above}
 
--- ---- each update is as written
+-- ---- each call is as written
 
 written : (c : Clock) (k : Call) → T (isClock c) → AsWritten c k
-written c (ask q) t = tt
+written c (ask q) t = demand1·clock c t .ask q
 written c (update u now) t = demand1·clock c t .update u now
 
 pub demand2·update : Demand2·update

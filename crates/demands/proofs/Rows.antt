@@ -4,7 +4,7 @@ use mathlib.Core.Bool.{Bool, true, false, cond}
 use mathlib.Core.Option.{Option, none, some}
 use Prim.Native.Nat.{ℕ}
 use lib.IntN.{ℤ}
-use lib.Signed.{ltZ, _≤ℤ_}
+use lib.Signed.{_≤ℤ_}
 use lib.Dec.{T}
 use Rattle.tables.proofs.Tables.{passed, answered, by-answer}
 use Rattle.clock.specs.Numbers.{END}

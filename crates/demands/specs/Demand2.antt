@@ -9,27 +9,28 @@ use lib.Dec.{T}
 use Rattle.line.specs.Line.{valueAt}
 use Rattle.clock.specs.Clock.{isRunning, monotonic, continuous}
 use Rattle.clock.specs.Update.{updateTable, updating, SameRequest}
-use Rattle.clock.specs.Calls.{Call, update, ask, accepted, after, afterAll, Given, nothing, _at_, given}
+use Rattle.clock.specs.Calls.{askTable, Call, update, ask, accepted, after, afterAll, Given, nothing, _at_, given}
 use Rattle.clock.specs.declared.Clock.{Clock}
 use Rattle.clock.specs.declared.Request.{Request}
-use Rattle.demands.specs.Demand1.{UpdatedBy}
+use Rattle.demands.specs.Demand1.{UpdatedBy, AnsweredBy}
 use Rattle.demands.specs.Lives.{Gave, Each, gathered}
 
--- ---- an update is refused exactly under the written rules, in their order, and otherwise has exactly the written effect
+-- ---- each call of a list is settled by the paper's own table: updates (demand 2), and questions too (01, 'The ideal
+-- line')
 
 abbrev pub AsWritten : Clock → Call → Type 0
 AsWritten c (update u now) = UpdatedBy (updateTable c u now) c u now
-AsWritten c (ask q) = Unit {0}
+AsWritten c (ask q) = AnsweredBy (askTable c q) c q
 
 abbrev pub Demand2·update : Type 0
 Demand2·update = (word : ℕ) (backstop now : ℤ) (c : Clock) → Gave word backstop now c →
     (calls : List Call) → Each AsWritten c calls
 
--- arguments not flagged are ignored
+-- what isn't flagged does not count
 abbrev pub IgnoresUnflagged : Type 0
 IgnoresUnflagged = (c : Clock) (u v : Request) (now : ℤ) → SameRequest u v → updating c u now ≡ updating c v now
 
--- ---- no reading is below the backstop
+-- ---- the backstop
 
 abbrev pub NotBelow : ℤ → Given → Type 0
 NotBelow backstop nothing = Unit {0}
@@ -39,7 +40,7 @@ abbrev pub Demand2·backstop : Type 0
 Demand2·backstop = (word : ℕ) (backstop now : ℤ) (c : Clock) → Gave word backstop now c →
     (calls : List Call) → Each (λ d k. NotBelow backstop (given d k)) c calls
 
--- ---- while the times don't fall, a monotonic clock's readings never fall
+-- ---- a monotonic clock, as long as its times don't fall
 
 abbrev pub timeOf : Given → List ℤ
 timeOf nothing = []
@@ -75,7 +76,7 @@ Demand2·monotonic = (word : ℕ) (backstop now : ℤ) (c : Clock) → Gave word
     (before stretch : List Call) →
     NeverFalls (times (afterAll c before) stretch) → NeverFalls (readings (afterAll c before) stretch)
 
--- ---- on a running continuous clock the old and new line agree at each update
+-- ---- a continuous clock that runs: an update leaves it the value that it had
 
 abbrev pub Agrees : Clock → Call → Type 0
 Agrees c (update u now) = T (isRunning c) → T (continuous (c .word)) →

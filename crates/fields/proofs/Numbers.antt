@@ -11,7 +11,7 @@ use lib.ListN.{length, take, drop, length-append}
 use lib.Seq.{take-at, drop-at}
 use lib.Pow.{pow-add, mod-pow-add, high, low}
 use lib.Arith.{digits-lt}
-use Rattle.fields.specs.Bits.{bit, number, odd, digits}
+use Rattle.fields.specs.Bits.{digit, number, odd, digits}
 
 pub length-digits : (w n : ℕ) → length (digits w n) ≡ w
 unfolding digits
@@ -24,26 +24,26 @@ number-append [] b = simp (zero-mul, zero-add)
 number-append (x ∷ a) b =
     simp (number-append a b, length-append a b, pow-add 2 (length a) (length b), add-mul, mul-assoc, add-assoc)
 
-bit-lt : (b : Bool) → bit b < 2
-bit-lt true = omega arith
-bit-lt false = omega arith
+digit-lt : (b : Bool) → digit b < 2
+digit-lt true = omega arith
+digit-lt false = omega arith
 
 pub number-lt : (a : List Bool) → number a < 2 ^ length a
 unfolding number
 number-lt [] = omega (arith, pow-zero 2)
 number-lt (b ∷ a) =
-    rw (pow-suc 2 (length a)) (omega (arith, digits-lt (bit-lt b) (number-lt a), mul-comm (2 ^ length a) 2))
+    rw (pow-suc 2 (length a)) (omega (arith, digits-lt (digit-lt b) (number-lt a), mul-comm (2 ^ length a) 2))
 
-bit-inj : (x y : Bool) → bit x ≡ bit y → x ≡ y
-bit-inj true true e = refl
-bit-inj true false e = absurd (omega arith)
-bit-inj false true e = absurd (omega arith)
-bit-inj false false e = refl
+digit-inj : (x y : Bool) → digit x ≡ digit y → x ≡ y
+digit-inj true true e = refl
+digit-inj true false e = absurd (omega arith)
+digit-inj false true e = absurd (omega arith)
+digit-inj false false e = refl
 
-odd-bit : (n : ℕ) → bit (odd n) ≡ n % 2
-odd-bit n = go (n % 2) (mod-lt n (omega arith))
+odd-digit : (n : ℕ) → digit (odd n) ≡ n % 2
+odd-digit n = go (n % 2) (mod-lt n (omega arith))
   where
-    go : (k : ℕ) → k < 2 → bit (eqb k 1) ≡ k
+    go : (k : ℕ) → k < 2 → digit (eqb k 1) ≡ k
     go zero h = refl
     go (suc zero) h = refl
     go (suc (suc k)) h = absurd (omega arith)
@@ -52,7 +52,7 @@ pub number-digits : (w n : ℕ) → number (digits w n) ≡ n % 2 ^ w
 unfolding number digits
 number-digits zero n = sym (mod-one n)
 number-digits (suc w) n =
-    simp (number-digits w n, odd-bit, length-digits w n, ← one-add w, mod-pow-add n 1 w)
+    simp (number-digits w n, odd-digit, length-digits w n, ← one-add w, mod-pow-add n 1 w)
 
 -- rows as long as each other that stand for one number are one row: so a law of digits is one of remainders
 pub number-inj : (a b : List Bool) → length a ≡ length b → number a ≡ number b → a ≡ b
@@ -60,7 +60,7 @@ unfolding number
 number-inj [] [] l e = refl
 number-inj [] (y ∷ b) l e = absurd (omega arith)
 number-inj (x ∷ a) [] l e = absurd (omega arith)
-number-inj (x ∷ a) (y ∷ b) l e = ap₂ {C = List Bool} (λ h t. h ∷ t) (bit-inj x y heads) (number-inj a b len tails)
+number-inj (x ∷ a) (y ∷ b) l e = ap₂ {C = List Bool} (λ h t. h ∷ t) (digit-inj x y heads) (number-inj a b len tails)
   where
     len : length a ≡ length b
     len = omega arith
@@ -68,14 +68,14 @@ number-inj (x ∷ a) (y ∷ b) l e = ap₂ {C = List Bool} (λ h t. h ∷ t) (bi
     at-a : number b < 2 ^ length a
     at-a = rw len (number-lt b)
 
-    same : bit x * 2 ^ length a + number a ≡ bit y * 2 ^ length a + number b
+    same : digit x * 2 ^ length a + number a ≡ digit y * 2 ^ length a + number b
     same = rw (← len) at e
 
-    heads : bit x ≡ bit y
-    heads = sym (high (bit x) (length a) (number-lt a)) ∙ ap (λ (k : ℕ). k / 2 ^ length a) same ∙ high (bit y) (length a) at-a
+    heads : digit x ≡ digit y
+    heads = sym (high (digit x) (length a) (number-lt a)) ∙ ap (λ (k : ℕ). k / 2 ^ length a) same ∙ high (digit y) (length a) at-a
 
     tails : number a ≡ number b
-    tails = sym (low (bit x) (length a) (number-lt a)) ∙ ap (λ (k : ℕ). k % 2 ^ length a) same ∙ low (bit y) (length a) at-a
+    tails = sym (low (digit x) (length a) (number-lt a)) ∙ ap (λ (k : ℕ). k % 2 ^ length a) same ∙ low (digit y) (length a) at-a
 
 pub digits-number : (a : List Bool) → digits (length a) (number a) ≡ a
 digits-number a =

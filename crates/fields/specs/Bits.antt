@@ -5,14 +5,14 @@ use Prim.Native.Nat.{ℕ, zero, suc, _+_, _*_, _/_, _%_, _^_, _<_}
 use lib.Dec.{eqb}
 use lib.ListN.{length, take, drop, getD}
 
-abbrev pub bit : Bool → ℕ
-bit true = 1
-bit false = 0
+abbrev pub digit : Bool → ℕ
+digit true = 1
+digit false = 0
 
 -- the number that a row of bits stands for: 0 1 0 1 for 5
 unfoldable pub number : List Bool → ℕ
 number [] = 0
-number (b ∷ row) = bit b * 2 ^ length row + number row
+number (b ∷ row) = digit b * 2 ^ length row + number row
 
 abbrev pub odd : ℕ → Bool
 odd n = eqb (n % 2) 1

@@ -1,14 +1,14 @@
 -- A whole number as an i64 sees it: each test of the code on it is the test of the number.
 use mathlib.Core.Bool.{Bool, true, false, cond, _||_}
-use mathlib.Core.Path.{_≡_, refl, sym, ap, _∙_}
+use mathlib.Core.Path.{_≡_, refl, sym, ap}
 use native.Mathlib.Omega.{arith}
 use native.Mathlib.Nat.{lt-of-le-of-lt, le-of-lt}
 use lib.Dec.{ltb, leb→le, le→leb}
 use lib.IntN.{ℤ, pos, negsuc}
-use lib.Signed.{ltZ, _≤ℤ_, leZ-yes}
+use lib.Signed.{ltZ, leZ-yes}
 use borrow.Author.Tests.{ltb-true, ltb-false, lt-ltb, le-ltb}
 use Rattle.line.specs.Numbers.{signedEnd}
-use Rattle.line.specs.Line.{line, Held}
+use Rattle.line.specs.Line.{line, Storable}
 use Rattle.line.specs.Value.{placed, isUnder, isOver, isLess, numberOf, drawnIf, held, isBeyond, lineOr}
 use Rattle.line.specs.declared.Line.{Line}
 use Rattle.line.specs.declared.Value.{Value}
@@ -17,15 +17,15 @@ use Rattle.line.specs.declared.Redrawn.{Redrawn}
 use Rattle.line.specs.declared.Redrawn.the-variants.{Drawn, Outside}
 
 -- a number that is held is seen as itself
-pub placed-in : (z : ℤ) → Held z → placed z ≡ Within z
+pub placed-in : (z : ℤ) → Storable z → placed z ≡ Within z
 unfolding placed
 placed-in (pos n) i = simp (le-ltb signedEnd n (leb→le n signedEnd (i .high .le)))
 placed-in (negsuc n) i = absurd (i .low .le)
 
-pub number-in : (z : ℤ) → Held z → numberOf (placed z) ≡ z
+pub number-in : (z : ℤ) → Storable z → numberOf (placed z) ≡ z
 number-in z i = ap numberOf (placed-in z i)
 
-pub under-law : (z b : ℤ) → Held b → isUnder (placed z) b ≡ ltZ z b
+pub under-law : (z b : ℤ) → Storable b → isUnder (placed z) b ≡ ltZ z b
 unfolding placed
 under-law (negsuc n) (pos b) i = refl
 under-law z (negsuc b) i = absurd (i .low .le)
@@ -35,7 +35,7 @@ under-law (pos n) (pos b) i = go (ltb signedEnd n) refl
     go true e = sym (le-ltb n b (le-of-lt (lt-of-le-of-lt (leb→le b signedEnd (i .high .le)) (ltb-true signedEnd n e))))
     go false e = refl
 
-pub over-law : (z b : ℤ) → Held b → isOver (placed z) b ≡ ltZ b z
+pub over-law : (z b : ℤ) → Storable b → isOver (placed z) b ≡ ltZ b z
 unfolding placed
 over-law (negsuc n) (pos b) i = refl
 over-law z (negsuc b) i = absurd (i .low .le)
@@ -46,7 +46,7 @@ over-law (pos n) (pos b) i = go (ltb signedEnd n) refl
     go false e = refl
 
 -- of two numbers, the first of them held
-pub less-law : (z w : ℤ) → Held z → isLess (placed z) (placed w) ≡ ltZ z w
+pub less-law : (z w : ℤ) → Storable z → isLess (placed z) (placed w) ≡ ltZ z w
 unfolding placed
 less-law (negsuc n) w i = absurd (i .low .le)
 less-law (pos n) (negsuc m) i = refl
@@ -60,7 +60,7 @@ less-law (pos n) (pos m) i =
 
 -- ---- lines drawn anew
 
-pub drawn-in : (l : Line) → Held (l .synthetic) → held l ≡ Drawn l
+pub drawn-in : (l : Line) → Storable (l .synthetic) → held l ≡ Drawn l
 unfolding held
 drawn-in l i = rw (placed-in (l .synthetic) i)
 
@@ -80,7 +80,7 @@ line-of P a (pos n) = go (ltb signedEnd n)
     go false = refl
 
 -- S0 outside 0..E, whatever E is held
-pub beyond-law : (R S a E : ℤ) → Held E → isBeyond (held (line R S a)) E ≡ (ltZ S (pos 0) || ltZ E S)
+pub beyond-law : (R S a E : ℤ) → Storable E → isBeyond (held (line R S a)) E ≡ (ltZ S (pos 0) || ltZ E S)
 unfolding held placed
 beyond-law R S a (negsuc m) i = absurd (i .low .le)
 beyond-law R (negsuc n) a (pos m) i = refl
@@ -91,7 +91,7 @@ beyond-law R (pos n) a (pos m) i = rw (le-ltb n 0 (omega arith)) (go (ltb signed
     go false e = refl
 
 -- what holds of the line, if its S0 is held, and of another, holds of the one that is taken
-pub line-or-keeps : (P : Line → Type 0) (R S a : ℤ) (other : Line) → (Held S → P (line R S a)) → P other → P (lineOr (held (line R S a)) other)
+pub line-or-keeps : (P : Line → Type 0) (R S a : ℤ) (other : Line) → (Storable S → P (line R S a)) → P other → P (lineOr (held (line R S a)) other)
 unfolding held placed
 line-or-keeps P R (negsuc n) a other f p = p
 line-or-keeps P R (pos n) a other f p = go (ltb signedEnd n) refl

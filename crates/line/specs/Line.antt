@@ -39,7 +39,9 @@ isZeros l = isZero (l .reference) && isZero (l .synthetic) && isZero (l .rate)
 -- reference and synthetic in 0..end, the rate in -widest..widest
 unfoldable pub bounded : Line → ℤ → ℤ → Bool
 bounded l end widest =
-    not (outside (pos 0) end (l .reference)) && not (outside (pos 0) end (l .synthetic)) && not (outside (negℤ widest) widest (l .rate))
+    not (outside (pos 0) end (l .reference))
+    && not (outside (pos 0) end (l .synthetic))
+    && not (outside (negℤ widest) widest (l .rate))
 
 -- at t the line shows at least b; `leZ a b` is a ≤ b
 unfoldable pub reaches : Line → ℤ → ℤ → Bool
@@ -59,6 +61,6 @@ pub record Computable (l : Line) : Type 0 where
   pub rate : Rising (l .rate)
 
 -- in 0..2^63 - 1
-pub record Held (x : ℤ) : Type 0 where
+pub record Storable (x : ℤ) : Type 0 where
   pub low : pos 0 ≤ℤ x
   pub high : x ≤ℤ pos signedEnd

@@ -9,7 +9,7 @@ use lib.Dec.{eqb}
 abbrev pub million : ℕ
 million = 1000000
 
--- what a line gains at most in each nanosecond, in millionths
+-- the largest slope that the code works with (`Computable`), in millionths; a clock's is far smaller
 abbrev pub steepest : ℕ
 steepest = 2 * million - 1
 

@@ -10,6 +10,7 @@ use Rattle.line.specs.declared.Value.the-variants.{Below, Within, Above}
 use Rattle.line.specs.declared.Redrawn.{Redrawn}
 use Rattle.line.specs.declared.Redrawn.the-variants.{Drawn, Outside}
 
+-- where it lies
 unfoldable pub placed : ℤ → Value
 placed (negsuc n) = Below
 placed (pos n) = cond (ltb signedEnd n) Above (Within (pos n))
@@ -45,6 +46,7 @@ drawnIf Below l = Outside
 drawnIf (Within x) l = Drawn l
 drawnIf Above l = Outside
 
+-- a line as it is drawn
 unfoldable pub held : Line → Redrawn
 held l = drawnIf (placed (l .synthetic)) l
 

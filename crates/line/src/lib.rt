@@ -4,7 +4,7 @@ ghost use Prim.Native.Nat.{_+_, _*_, _/_, _≤_, _<_};
 ghost use lib.IntN.{pos};
 ghost use lib.Signed.{_≤ℤ_};
 ghost use Rattle.line.specs.Numbers.{million, signedEnd, steepest};
-ghost use Rattle.line.specs.Line.{zeroLine, slope, valueAt, turned, isZeros, bounded, reaches, Rising, Computable, Held};
+ghost use Rattle.line.specs.Line.{zeroLine, slope, valueAt, turned, isZeros, bounded, reaches, Rising, Computable, Storable};
 ghost use Rattle.line.specs.Value.{placed, held};
 ghost use Rattle.line.specs.Parts.{gained, Natural, IsLine, Counted};
 
@@ -92,7 +92,7 @@ impl Line {
     // Whether the value at t is at least the bound. Where the line begins no later than t and no lower, it needn't be
     // worked out.
     pub fn reaches(self, t: i64, bound: i64) -> bool
-        requires { ⌜ Computable self × (pos 0 ≤ℤ t) × Held bound ⌝ }
+        requires { ⌜ Computable self × (pos 0 ≤ℤ t) × Storable bound ⌝ }
         ensures { λ r. ⌜ r ≡ reaches self t bound ⌝ }
     {
         let Line {

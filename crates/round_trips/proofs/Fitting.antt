@@ -18,7 +18,7 @@ use Rattle.fields.specs.Bits.{row}
 use Rattle.fields.specs.Record.{packed, Fit}
 use Rattle.fields.proofs.Rows.{length-bytesOf, row-bytesOf}
 use Rattle.fields.proofs.Records.{length-packed}
-use Rattle.slip.specs.Layout.{headerWidth, headerOf, wordOf, timeWidth, rateWidth, errorWidth, rateField, rateFieldEnd, asking, widths, slipLength, padding, layout}
+use Rattle.slip.specs.Layout.{headerWidth, headerOf, wordOf, timeWidth, rateWidth, errorWidth, rateField, rateFieldEnd, bare, widths, slipLength, padding, layout}
 use Rattle.slip.specs.Writing.{valuesOf, slipOf}
 use Rattle.round_trips.specs.RoundTrips.{Sized}
 use Rattle.slip.proofs.Layouts.{total-layout}
@@ -31,7 +31,7 @@ use Rattle.slip.proofs.Writings.{Writable}
 -- only the word matters to rule 3
 pub wrong-alike : (u v : Request) → u .word ≡ v .word → wordWrong u ≡ wordWrong v
 unfolding wordWrong
-wrong-alike u v e = ap (λ (w : ℕ). wordWrong (asking w)) e
+wrong-alike u v e = ap (λ (w : ℕ). wordWrong (bare w)) e
 
 module _ (u : Request) (known : T (not (wordWrong u))) where
   version-two : u .word / 2 ^ 58 ≡ 2

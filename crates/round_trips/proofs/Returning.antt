@@ -21,7 +21,7 @@ use Rattle.fields.specs.Field.{field}
 use Rattle.fields.specs.Record.{fields}
 use Rattle.fields.proofs.Rows.{row-append}
 use Rattle.fields.proofs.Records.{fields-packed}
-use Rattle.slip.specs.Layout.{headerWidth, headerOf, wordOf, asking, rateField, rateOf, rateFieldEnd, widths, slipLength, layout, headerLength}
+use Rattle.slip.specs.Layout.{headerWidth, headerOf, wordOf, bare, rateField, rateOf, rateFieldEnd, widths, slipLength, layout, headerLength}
 use Rattle.slip.specs.Reading.{headed, valuesIn, rateIn, paddingIn, headerTable, fieldsTable, frontTable, requestOf, received, refusedBy, readingFront, readingSlip}
 use Rattle.slip.specs.Writing.{valuesOf, slipOf}
 use Rattle.slip.specs.declared.Received.{Received}
@@ -137,7 +137,7 @@ module _ (u : Request) (w : Writable u) (s : Sized u) (rest : List ℕ) where
   unfolding readingFront
   front-read =
       sym (answered (frontTable bytes) (received (headed bytes) (valuesIn bytes)) refusedBy front-passed)
-      ∙ ap₂ (λ (word : ℕ) (vs : List ℕ). received (asking word) vs) word-there values-read
+      ∙ ap₂ (λ (word : ℕ) (vs : List ℕ). received (bare word) vs) word-there values-read
       ∙ ap (λ (r : Request). record { request = r; refusal = 0 }) (request-kept u w)
 
 -- a slip alone

@@ -16,7 +16,7 @@ use Rattle.slip.specs.Layout.{widths, slipLength}
 use Rattle.slip.specs.Reading.{headed, valuesIn, headerTable, fieldsTable, frontTable, slipTable, received, refusedBy, readingSlip}
 use Rattle.slip.specs.Writing.{slipOf, writingTable, Outcome, filled, untouched, writing}
 use Rattle.slip.specs.declared.Received.{Received}
-use Rattle.slip.proofs.Layouts.{length-low, length-high, length-alike}
+use Rattle.slip.proofs.Layouts.{length-low, total-high, length-high, length-alike}
 use Rattle.slip.proofs.Writings.{Writable, taken, writing-filled}
 use Rattle.round_trips.specs.RoundTrips.{UnflaggedZero, Sized, ReadsAs, ReadsBack, NeverShared, Rewritten, Measured, ReadLength, WrittenLength, Numbered}
 use Rattle.round_trips.proofs.Fitting.{length-slip}
@@ -33,7 +33,7 @@ none-told number rows taken refused h = go (first rows)
     go (suc n) e = sym (h (suc n)) ∙ e
 
 measured : (u : Request) (n : ℕ) → n ≡ slipLength u → Measured u n
-measured u n e = record { called = e; low = omega (arith, length-low u); high = omega (arith, length-high u) }
+measured u n e = record { called = e; low = omega (arith, length-low u); high = omega (arith, length-high u); bits = total-high u }
 
 pub numbered : Numbered
 unfolding widths slipLength

@@ -10,7 +10,7 @@ use Rattle.clock.specs.Update.{hasSynthetic, hasReference, hasRate, hasError, S
 use Rattle.clock.specs.declared.Request.{Request}
 use Rattle.fields.specs.Bits.{Bytes}
 use Rattle.fields.specs.Record.{total}
-use Rattle.slip.specs.Layout.{asking, widths, slipLength, headerLength, fullWord, longest}
+use Rattle.slip.specs.Layout.{bare, widths, slipLength, headerLength, fullWord, longest}
 use Rattle.slip.specs.Reading.{headed, readingSlip}
 use Rattle.slip.specs.Writing.{slipOf, writing}
 
@@ -48,7 +48,8 @@ NeverShared = (u v : Request) (left right : List ℕ) → Sized u → Sized v �
 -- every slip that reading takes is taken by writing into any buffer with room for it, and gives the same bytes
 abbrev pub Rewritten : Type 0
 Rewritten = (bytes buffer : List ℕ) → Bytes bytes → readingSlip bytes .refusal ≡ 0 → length bytes ≤ length buffer →
-    writing (readingSlip bytes .request) buffer ≡ record { refusal = 0; length = length bytes; buffer = bytes ++ drop (length bytes) buffer }
+    writing (readingSlip bytes .request) buffer
+    ≡ record { refusal = 0; length = length bytes; buffer = bytes ++ drop (length bytes) buffer }
 
 -- ---- lengths
 
@@ -57,6 +58,7 @@ pub record Measured (u : Request) (n : ℕ) : Type 0 where
   pub called : n ≡ slipLength u
   pub low : headerLength ≤ n
   pub high : n ≤ longest
+  pub bits : total (widths u) ≤ total (widths (bare fullWord))
 
 abbrev pub ReadLength : Type 0
 ReadLength = (bytes : List ℕ) → readingSlip bytes .refusal ≡ 0 → Measured (headed bytes) (length bytes)
@@ -67,5 +69,5 @@ WrittenLength = (u : Request) (buffer : List ℕ) → writing u buffer .refusal 
 -- the paper's numbers (01, 'The update slip'): a header of 2 bytes; 213 bits where all four are flagged, in 27 bytes
 pub record Numbered : Type 0 where
   pub header : headerLength ≡ 2
-  pub bits : total (widths (asking fullWord)) ≡ 213
+  pub bits : total (widths (bare fullWord)) ≡ 213
   pub bytes : longest ≡ 27

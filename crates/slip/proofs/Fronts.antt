@@ -15,7 +15,7 @@ use Rattle.clock.specs.Update.{hasSynthetic, hasReference, wordWrong}
 use Rattle.fields.specs.Field.{field}
 use Rattle.fields.specs.Record.{fields, Fit}
 use Rattle.fields.proofs.Records.{fields-fit}
-use Rattle.slip.specs.Layout.{headerWidth, wordOf, asking, timeWidth, rateFieldEnd, widths, slipLength, layout, headerLength}
+use Rattle.slip.specs.Layout.{headerWidth, wordOf, bare, timeWidth, rateFieldEnd, widths, slipLength, layout, headerLength}
 use Rattle.slip.specs.Reading.{headed, valuesIn, rateIn, headerTable, fieldsTable, frontTable, slipTable, received, zeroRequest, refusedBy, readingFront, readingSlip}
 use Rattle.slip.specs.Parts.{judging, Small}
 use Rattle.slip.specs.declared.Received.{Received}
@@ -28,9 +28,9 @@ rate-told values e = nltb→le rateFieldEnd (rateIn values) (passed 6 (fieldsTab
 -- ---- the front
 
 module _ (bytes : List ℕ) where
-  pub header-word : (header : ℕ) → header ≡ field bytes 0 headerWidth → asking (wordOf header) ≡ headed bytes
+  pub header-word : (header : ℕ) → header ≡ field bytes 0 headerWidth → bare (wordOf header) ≡ headed bytes
   unfolding headed
-  header-word header e = ap (λ (h : ℕ). asking (wordOf h)) e
+  header-word header e = ap (λ (h : ℕ). bare (wordOf h)) e
 
   pub front-none : length bytes < headerLength → refusedBy 18 ≡ readingFront bytes
   unfolding readingFront frontTable headerTable

@@ -9,8 +9,8 @@ use lib.ListN.{length, getD}
 use Rattle.clock.specs.Update.{hasSynthetic, hasReference, hasRate, hasError}
 use Rattle.clock.specs.declared.Request.{Request}
 use Rattle.fields.specs.Bits.{room}
-use Rattle.fields.specs.Record.{total, Words, AllInside}
-use Rattle.slip.specs.Layout.{headerWidth, timeWidth, rateWidth, errorWidth, flaggedWidth, asking, widths, slipLength, padding, layout, headerLength, fullWord, longest}
+use Rattle.fields.specs.Record.{total, Narrow, AllInside}
+use Rattle.slip.specs.Layout.{headerWidth, timeWidth, rateWidth, errorWidth, flaggedWidth, bare, widths, slipLength, padding, layout, headerLength, fullWord, longest}
 
 pub flagged-le : (flagged : Bool) (width : ℕ) → flaggedWidth flagged width ≤ width
 flagged-le true width = omega arith
@@ -35,7 +35,7 @@ module _ (u : Request) where
   unfolding widths
   total-low = omega arith
 
-  total-high : total (widths u) ≤ total (widths (asking fullWord))
+  pub total-high : total (widths u) ≤ total (widths (bare fullWord))
   unfolding widths
   total-high =
       omega (
@@ -52,7 +52,7 @@ module _ (u : Request) where
 
   pub length-high : slipLength u ≤ longest
   unfolding slipLength
-  length-high = room-mono (total (widths u)) (total (widths (asking fullWord))) total-high
+  length-high = room-mono (total (widths u)) (total (widths (bare fullWord))) total-high
 
   padding-high : padding u ≤ 7
   unfolding padding slipLength
@@ -67,9 +67,9 @@ module _ (u : Request) where
   unfolding layout padding slipLength
   total-layout = total-append (widths u) (padding u ∷ []) ∙ whole (total (widths u))
 
-  words-layout : Words (layout u)
+  narrow-layout : Narrow (layout u)
   unfolding layout widths
-  words-layout = (
+  narrow-layout = (
     omega arith,
     (
       omega (arith, flagged-le (hasSynthetic u) (timeWidth (u .word))),
@@ -87,7 +87,7 @@ module _ (u : Request) where
 
   -- a slip lies in bytes that are as long as its header calls for
   pub layout-inside : (bytes : List ℕ) → slipLength u ≤ length bytes → AllInside bytes 0 (layout u)
-  layout-inside bytes h = (omega (arith, total-layout), words-layout, omega (arith, total-layout, counted))
+  layout-inside bytes h = (omega (arith, total-layout), narrow-layout, omega (arith, total-layout, counted))
 
 -- ---- the widths as the code has them
 
@@ -104,8 +104,8 @@ widths-layout u r p e h = ap₂ {C = List ℕ} (λ ws p. getD ws 0 0 ∷ getD ws
 -- only the word matters
 pub length-alike : (u v : Request) → u .word ≡ v .word → slipLength u ≡ slipLength v
 unfolding slipLength widths
-length-alike u v e = ap (λ (w : ℕ). slipLength (asking w)) e
+length-alike u v e = ap (λ (w : ℕ). slipLength (bare w)) e
 
 pub layout-alike : (u v : Request) → u .word ≡ v .word → layout u ≡ layout v
 unfolding layout padding slipLength widths
-layout-alike u v e = ap (λ (w : ℕ). layout (asking w)) e
+layout-alike u v e = ap (λ (w : ℕ). layout (bare w)) e

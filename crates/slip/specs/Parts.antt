@@ -1,5 +1,5 @@
--- What the inner parts of the code compute. The rules above do not rest on this file; proofs/ shows that the parts
--- give the rules.
+-- What the inner parts of the code compute. The rules in the other files do not rest on this one; proofs/ shows that
+-- the parts give the rules.
 use mathlib.Core.List.{List}
 use Prim.Native.Nat.{ℕ, _^_, _<_}
 use lib.ListN.{getD}

@@ -10,7 +10,7 @@ ghost use Rattle.tables.specs.Tables.{first};
 ghost use Rattle.clock.specs.Clock.{InRange, Permitted};
 ghost use Rattle.clock.specs.Update.{valuesOutside, rateTooWide};
 ghost use Rattle.fields.specs.Record.{total, fields, AllInside};
-ghost use Rattle.slip.specs.Layout.{asking, timeWidth, rateField, rateOf, rateFieldEnd, flaggedWidth, widths, slipLength, layout};
+ghost use Rattle.slip.specs.Layout.{bare, timeWidth, rateField, rateOf, rateFieldEnd, flaggedWidth, widths, slipLength, layout};
 ghost use Rattle.slip.specs.Reading.{refusedBy, readingFront, readingSlip};
 ghost use Rattle.slip.specs.Writing.{valuesOf, slipOf, writingTable, writing, outcome};
 ghost use Rattle.slip.specs.Parts.{judging, Small};
@@ -80,7 +80,7 @@ pub fn write(request: Request, buffer: &mut [u8]) -> Written
 
 // The bytes of a slip whose header is the top of this word.
 pub fn slip_length(word: u64) -> usize
-    ensures { λ r. ⌜ r ≡ slipLength (asking word) ⌝ }
+    ensures { λ r. ⌜ r ≡ slipLength (bare word) ⌝ }
 {
     (bits_of(word) + 7) / 8
 }
@@ -93,7 +93,7 @@ fn read_front(bytes: &[u8]) -> Received
         return refused(refusal::TOO_SHORT);
     }
     let header = fields::take(bytes, 0, HEADER_BITS);
-    let asked = asking(header.value * HEADER_UNIT);
+    let asked = bare(header.value * HEADER_UNIT);
     if asked.word_wrong() {
         return refused(refusal::WORD_WRONG);
     }
@@ -154,13 +154,13 @@ fn rate_of(flagged: bool, value: u64) -> i32
 fn refused(refusal: u8) -> Received
     ensures { λ r. ⌜ r ≡ refusedBy refusal ⌝ }
 {
-    let request = asking(0);
+    let request = bare(0);
     Received { request, refusal }
 }
 
 // A request of this word with zero arguments.
-fn asking(word: u64) -> Request
-    ensures { λ r. ⌜ r ≡ asking word ⌝ }
+fn bare(word: u64) -> Request
+    ensures { λ r. ⌜ r ≡ bare word ⌝ }
 {
     Request {
         word,
@@ -187,9 +187,9 @@ fn flagged_width(flagged: bool, width: usize) -> usize
 
 // The bits of header, synthetic, reference, rate and error.
 fn widths_of(word: u64) -> [usize; 5]
-    ensures { λ r. ⌜ r ≡ widths (asking word) ⌝ }
+    ensures { λ r. ⌜ r ≡ widths (bare word) ⌝ }
 {
-    let asked = asking(word);
+    let asked = bare(word);
     let time = time_width(word);
     let flags = asked.flags();
     let synthetic = flagged_width(flags.synthetic, time);
@@ -201,7 +201,7 @@ fn widths_of(word: u64) -> [usize; 5]
 
 // The bits of a slip before its padding.
 fn bits_of(word: u64) -> usize
-    ensures { λ r. ⌜ r ≡ total (widths (asking word)) ⌝ }
+    ensures { λ r. ⌜ r ≡ total (widths (bare word)) ⌝ }
 {
     let w = widths_of(word);
     w[0] + w[1] + w[2] + w[3] + w[4]
@@ -209,7 +209,7 @@ fn bits_of(word: u64) -> usize
 
 // The bits of header, synthetic, reference, rate, error and padding.
 fn layout_of(word: u64) -> [usize; 6]
-    ensures { λ r. ⌜ r ≡ layout (asking word) ⌝ }
+    ensures { λ r. ⌜ r ≡ layout (bare word) ⌝ }
 {
     let w = widths_of(word);
     let padding = 8 * slip_length(word) - bits_of(word);

@@ -1,4 +1,9 @@
 -- A table of refusals: numbered tests in the order in which they are made, and the answer that it gives.
+--
+-- How to read the definitions: `pos n` is the whole number n, `ltZ a b` is a < b, `leZ a b` a ≤ b, and `eqb` tests
+-- whether two numbers are equal; `not`, `&&` and `||` are as in code. `cond b x y` is x where b holds, else y. `x ∷ xs`
+-- is a list with x in front, `[]` the empty one, and `++` joins two. In statements `T b` says that b holds and `a ≡ b`
+-- that they are equal; `×` is and, `⊎` is or.
 use mathlib.Core.Bool.{Bool, true, false, not, cond}
 use mathlib.Core.List.{List, [], _∷_}
 use mathlib.Core.Logic.{_⊎_}
@@ -40,6 +45,7 @@ FirstApplies [] n = ⊥
 FirstApplies ((m when true) ∷ rows) n = m ≡ n
 FirstApplies ((m when false) ∷ rows) n = FirstApplies rows n
 
+-- no row applies, and `taken` is told; or the first row that applies has the number n, and `refused n` is told
 abbrev pub Settled : {A : Type 0} → List Row → A → A → (ℕ → A) → Type 0
 Settled rows told taken refused =
     (NoneApplies rows × (told ≡ taken)) ⊎ ((n : ℕ) × FirstApplies rows n × (told ≡ refused n))

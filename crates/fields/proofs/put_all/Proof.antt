@@ -8,7 +8,7 @@ use Rattle.fields.specs.Bits.{row}
 use Rattle.fields.specs.Field.{over}
 use Rattle.fields.specs.Record.{total, packed}
 use Rattle.fields.proofs.Rows.{length-row}
-use Rattle.fields.proofs.Turns.{total-more, total-le, words-at, packed-none, put-all-step}
+use Rattle.fields.proofs.Turns.{total-more, total-le, narrow-at, packed-none, put-all-step}
 use Rattle.fields.proofs.put_all.Statement.{statement}
 use Rattle.fields.proofs.put_all.Tie as tie
 
@@ -55,7 +55,7 @@ put-requires c κs =
     let ws = s .args .widths .now in
     let m = total-more ws (l .i) (omega arith) in
     let k = total-le ws (l .i + 1) in
-    (omega (arith, m, k, s .pre .1 .0), words-at ws (l .i) (s .pre .1 .1), omega (arith, m, k, s .pre .1 .2))
+    (omega (arith, m, k, s .pre .1 .0), narrow-at ws (l .i) (s .pre .1 .1), omega (arith, m, k, s .pre .1 .2))
 
 add-place : tie.Need-add-place Inv-loop μ-loop
 add-place c =

@@ -7,7 +7,7 @@ use lib.Seq.{take-all}
 use Rattle.fields.specs.Field.{field}
 use Rattle.fields.specs.Record.{total, fields}
 use Rattle.fields.specs.declared.Taken.{Taken}
-use Rattle.fields.proofs.Turns.{total-more, total-le, words-at, fields-none, take-all-step}
+use Rattle.fields.proofs.Turns.{total-more, total-le, narrow-at, fields-none, take-all-step}
 use Rattle.fields.proofs.take_all.Statement.{statement}
 use Rattle.fields.proofs.take_all.Tie as tie
 
@@ -47,7 +47,7 @@ take-requires c κs =
     let ws = s .args .widths .now in
     let m = total-more ws (l .i) (omega arith) in
     let k = total-le ws (l .i + 1) in
-    (omega (arith, m, k, s .pre .1 .0), words-at ws (l .i) (s .pre .1 .1), omega (arith, m, k, s .pre .1 .2))
+    (omega (arith, m, k, s .pre .1 .0), narrow-at ws (l .i) (s .pre .1 .1), omega (arith, m, k, s .pre .1 .2))
 
 loop-again : tie.Need-loop-again Inv-loop μ-loop
 loop-again c =

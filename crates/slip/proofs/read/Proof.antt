@@ -3,7 +3,7 @@ use mathlib.Core.Bool.{Bool, cond}
 use mathlib.Core.List.{List}
 use Prim.Native.Nat.{ℕ}
 use lib.ListN.{length}
-use Rattle.slip.specs.Layout.{asking, slipLength}
+use Rattle.slip.specs.Layout.{bare, slipLength}
 use Rattle.slip.specs.Reading.{refusedBy, readingSlip}
 use Rattle.slip.specs.declared.Received.{Received}
 use Rattle.slip.proofs.Layouts.{length-alike}
@@ -27,7 +27,7 @@ is : (c : tie.After-slip-length) → strictly (front c .read-front .result) (c .
 is c =
     let r = front c .read-front .result in
     let size = length (bytes (front c)) in
-    ap (λ (n : ℕ). strictly r n size) (c .slip-length .ensures ∙ length-alike (asking (r .request .word)) (r .request) refl)
+    ap (λ (n : ℕ). strictly r n size) (c .slip-length .ensures ∙ length-alike (bare (r .request .word)) (r .request) refl)
     ∙ ap (λ (r : Received). strictly r (slipLength (r .request)) size) (front c .read-front .ensures)
     ∙ strict (bytes (front c))
 

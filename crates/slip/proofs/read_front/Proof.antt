@@ -9,7 +9,7 @@ use Rattle.fields.specs.Field.{field}
 use Rattle.fields.specs.Record.{fields, AllInside}
 use Rattle.fields.specs.declared.Taken.{Taken}
 use Rattle.fields.proofs.Reading.{field-lt}
-use Rattle.slip.specs.Layout.{headerWidth, asking, slipLength, layout}
+use Rattle.slip.specs.Layout.{headerWidth, bare, slipLength, layout}
 use Rattle.slip.specs.Reading.{headed, valuesIn}
 use Rattle.slip.specs.Parts.{judging, Small}
 use Rattle.slip.proofs.Layouts.{layout-inside, length-alike, layout-alike}
@@ -30,10 +30,10 @@ taking c =
     let take = c .before in
     take .before
 
-abbrev there : tie.After-asking → tie.Else1
+abbrev there : tie.After-bare → tie.Else1
 there c = taking (c .before)
 
-abbrev header : tie.Else2 → tie.After-asking
+abbrev header : tie.Else2 → tie.After-bare
 header c =
     let wrong = c .before in
     wrong .before
@@ -56,27 +56,27 @@ values c =
 taken : (c : tie.After-struct-known) → c .before .take .result .value ≡ field (bytes (taking c)) 0 headerWidth
 taken c = ap (λ (t : Taken). t .value) (c .before .take .ensures)
 
-asked : (c : tie.After-asking) → c .asking .result ≡ headed (bytes (there c))
+asked : (c : tie.After-bare) → c .bare .result ≡ headed (bytes (there c))
 asked c =
     let header = c .before in
-    c .asking .ensures ∙ header-word (bytes (there c)) (header .before .take .result .value) (taken header)
+    c .bare .ensures ∙ header-word (bytes (there c)) (header .before .take .result .value) (taken header)
 
 known : (c : tie.Else2) → wordWrong (headed (bytes (there (header c)))) ≡ false
 known c = ap wordWrong (sym (asked (header c))) ∙ sym (c .before .word-wrong .ensures) ∙ c .if2 .left
 
 called : (c : tie.After-slip-length) → c .slip-length .result ≡ slipLength (headed (bytes (there (header (c .before)))))
 called c =
-    let u = header (c .before) .asking .result in
-    c .slip-length .ensures ∙ length-alike (asking (u .word)) u refl ∙ ap slipLength (asked (header (c .before)))
+    let u = header (c .before) .bare .result in
+    c .slip-length .ensures ∙ length-alike (bare (u .word)) u refl ∙ ap slipLength (asked (header (c .before)))
 
 enough : (c : tie.Else3) → slipLength (headed (all c)) ≤ length (all c)
 enough c = subst (λ (n : ℕ). n ≤ length (all c)) (called (c .before)) (c .if3 .left)
 
 laid : (c : tie.After-layout-of) → c .layout-of .result ≡ layout (headed (all (c .before)))
 laid c =
-    let asking-step = header (word (c .before)) in
-    let u = asking-step .asking .result in
-    c .layout-of .ensures ∙ layout-alike (asking (u .word)) u refl ∙ ap layout (asked asking-step)
+    let bare-step = header (word (c .before)) in
+    let u = bare-step .bare .result in
+    c .layout-of .ensures ∙ layout-alike (bare (u .word)) u refl ∙ ap layout (asked bare-step)
 
 gathered : (c : tie.After-take-all) → c .take-all .result ≡ valuesIn (all (values c))
 unfolding valuesIn
@@ -90,18 +90,18 @@ returns c =
     let known = test .before in
     c .refused .ensures ∙ front-none (known .before .args .bytes .now) (test .if1 .taken)
 
-mul-asking : tie.Need-mul-asking
-mul-asking c =
+mul-bare : tie.Need-mul-bare
+mul-bare c =
     record { fits = omega (arith, taken c, field-lt (bytes (taking c)) 0 headerWidth (omega (arith, taking c .if1 .left))) }
 
 returns-2 : tie.Need-returns-2
 returns-2 c =
     let test = c .before in
     let wrong = test .before in
-    let asking = wrong .before in
+    let bare = wrong .before in
     c .refused2 .ensures
-    ∙ front-word (bytes (there asking)) (there asking .if1 .left)
-    (ap wordWrong (sym (asked asking)) ∙ sym (wrong .word-wrong .ensures) ∙ test .if2 .taken)
+    ∙ front-word (bytes (there bare)) (there bare .if1 .left)
+    (ap wordWrong (sym (asked bare)) ∙ sym (wrong .word-wrong .ensures) ∙ test .if2 .taken)
 
 returns-3 : tie.Need-returns-3
 returns-3 c =
@@ -136,7 +136,7 @@ read-front-spec =
     (λ c κs. search needs)
     returns
     (λ c κs. search needs)
-    mul-asking
+    mul-bare
     (λ c κs. search needs)
     (λ c κs. search needs)
     (λ c κs. search needs)

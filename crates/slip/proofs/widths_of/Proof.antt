@@ -1,6 +1,6 @@
 use mathlib.Core.Path.{_≡_, ap, _∙_}
 use Rattle.clock.specs.Update.{flagged}
-use Rattle.slip.specs.Layout.{asking, widths}
+use Rattle.slip.specs.Layout.{bare, widths}
 use borrow.Author.Needs.{needs}
 use Rattle.slip.proofs.widths_of.Statement.{statement}
 use Rattle.slip.proofs.widths_of.Tie as tie
@@ -14,7 +14,7 @@ returns c =
     let flags = synthetic .before in
     let time = flags .before in
     let asked = time .before in
-    let told : flags .flags .result ≡ flagged (asking (asked .before .args .word)) = flags .flags .ensures ∙ ap flagged (asked .asking .ensures) in
+    let told : flags .flags .result ≡ flagged (bare (asked .before .args .word)) = flags .flags .ensures ∙ ap flagged (asked .bare .ensures) in
     simp (
       c .flagged-width4 .ensures,
       rate .flagged-width3 .ensures,

@@ -2,7 +2,7 @@ use mathlib.Core.Path.{_≡_, refl, sym, _∙_}
 use lib.ListN.{length}
 use Rattle.tables.specs.Tables.{first}
 use Rattle.tables.proofs.Tables.{refused-by}
-use Rattle.slip.specs.Layout.{asking}
+use Rattle.slip.specs.Layout.{bare}
 use Rattle.slip.specs.Writing.{writingTable, filled, untouched, writing}
 use Rattle.slip.proofs.Layouts.{length-alike}
 use Rattle.slip.proofs.Writings.{taken, writing-taken}
@@ -35,7 +35,7 @@ returns c =
     let test = lent .before in
     let s = start (test .before) .args in
     writing-taken (s .request) (s .buffer .now) _ _ _ (passed test) (test .if1 .taken)
-    (c .slip-length .ensures ∙ length-alike (asking (s .request .word)) (s .request) refl) (slip .write-slip .ensures)
+    (c .slip-length .ensures ∙ length-alike (bare (s .request .word)) (s .request) refl) (slip .write-slip .ensures)
 
 returns-2 : tie.Need-returns-2
 unfolding writing

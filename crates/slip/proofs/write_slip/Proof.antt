@@ -6,7 +6,7 @@ use Rattle.fields.specs.Bits.{row}
 use Rattle.fields.specs.Field.{over}
 use Rattle.fields.specs.Record.{packed, AllInside}
 use Rattle.clock.specs.declared.Request.{Request}
-use Rattle.slip.specs.Layout.{asking, widths, layout}
+use Rattle.slip.specs.Layout.{bare, widths, layout}
 use Rattle.slip.specs.Writing.{valuesOf}
 use Rattle.slip.proofs.Layouts.{layout-inside, layout-alike}
 use Rattle.slip.proofs.Writings.{slip-written}
@@ -35,7 +35,7 @@ start c =
 -- ---- the needs
 
 laid : (c : tie.After-layout-of) → c .layout-of .result ≡ layout (start c .args .request)
-laid c = let u = start c .args .request in c .layout-of .ensures ∙ layout-alike (asking (u .word)) u refl
+laid c = let u = start c .args .request in c .layout-of .ensures ∙ layout-alike (bare (u .word)) u refl
 
 put-all-requires : tie.Need-put-all-requires
 put-all-requires c κs =

@@ -1,7 +1,7 @@
 use mathlib.Core.Path.{refl, ap, _∙_}
 use lib.Dec.{ltb}
 use Rattle.tables.proofs.Tables.{row, walk-first}
-use Rattle.slip.specs.Layout.{asking}
+use Rattle.slip.specs.Layout.{bare}
 use Rattle.slip.specs.Writing.{writingTable}
 use Rattle.slip.proofs.Layouts.{length-alike}
 use borrow.Author.Needs.{needs}
@@ -23,7 +23,7 @@ returns c =
     (row 6 (rate .next3 .ensures)
     (row 5 (values .next2 .ensures) (row 3 (word .next .ensures) refl (wrong .word-wrong .ensures)) (outside .values-outside .ensures))
     (too-wide .rate-too-wide .ensures))
-    (ap (ltb (s .size)) (length .slip-length .ensures ∙ length-alike (asking (s .request .word)) (s .request) refl))
+    (ap (ltb (s .size)) (length .slip-length .ensures ∙ length-alike (bare (s .request .word)) (s .request) refl))
     ∙ walk-first (writingTable (s .request) (s .size)) tt
 
 pub writing-refusal-spec : {M : Type 1} → statement M

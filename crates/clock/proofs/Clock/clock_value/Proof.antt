@@ -4,7 +4,7 @@ use mir.Val.{toZ, ofZ}
 use mir.ValLaws.{toZ-ofZ}
 use Rattle.line.proofs.Placed.{placed-in}
 use Rattle.clock.specs.Reading.{clockValue}
-use Rattle.clock.proofs.Ranges.{range-held, computable}
+use Rattle.clock.proofs.Ranges.{range-storable, computable}
 use borrow.Author.Tests.{ne-eqb}
 use borrow.Author.Needs.{needs}
 use Rattle.clock.proofs.Clock.clock_value.Statement.{statement}
@@ -27,7 +27,7 @@ returns-2 c =
     let if1 = c .before in
     let s = if1 .before .before in
     let b : toZ w64 (ofZ w64 (s .args .self .backstop)) ≡ s .args .self .backstop = search needs in
-    simp (b, ne-eqb (s .args .self .started) 1 (if1 .if1 .left)) (sym (placed-in (s .args .self .backstop) (range-held (s .pre .0 .backstop))))
+    simp (b, ne-eqb (s .args .self .started) 1 (if1 .if1 .left)) (sym (placed-in (s .args .self .backstop) (range-storable (s .pre .0 .backstop))))
 
 pub clock-value-spec : {M : Type 1} → statement M
 clock-value-spec = tie.close (tie.spec value-at-requires returns returns-2)

@@ -5,7 +5,7 @@ use lib.Signed.{leZ-yes}
 use mir.Syntax.{w64}
 use mir.Val.{toZ, ofZ}
 use Rattle.clock.specs.Taken.{drawable, mayRun}
-use Rattle.clock.proofs.Ranges.{range-held, computable}
+use Rattle.clock.proofs.Ranges.{range-storable, computable}
 use Rattle.clock.proofs.Taken.{drawable-line}
 use borrow.Author.Needs.{needs}
 use Rattle.clock.proofs.Clock.may_run.Statement.{statement}
@@ -26,7 +26,7 @@ reaches-requires c κs =
     let s = bounded .before .before .before .before in (
       computable (drawable-line (s .args .self .line) (subst T (sym (c .if1 .taken) ∙ bounded .is-bounded .ensures) tt)),
       rw (latest s) (s .pre .0 .low),
-      rw (backstop s) (range-held (s .pre .1)),
+      rw (backstop s) (range-storable (s .pre .1)),
     )
 
 returns : tie.Need-returns

@@ -4,7 +4,6 @@ use mir.Val.{toZ, ofZ}
 use mir.ValLaws.{toZ-ofZ}
 use Rattle.tables.specs.Tables.{first}
 use Rattle.tables.proofs.Tables.{passed, answered, refused-by}
-use Rattle.line.specs.Line.{Computable}
 use Rattle.line.specs.Value.{held, lineOr}
 use Rattle.line.specs.declared.Redrawn.{Redrawn}
 use Rattle.clock.specs.Clock.{oldLine, InRange, Drawable, Valid}
