@@ -180,9 +180,16 @@ impl Clock {
         if self.clearly_runs() {
             self.read_tested(true, now)
         } else {
-            let taken = self.is_clock();
-            self.read_tested(taken, now)
+            self.read_unclear(now)
         }
+    }
+
+    // The same where the short test leaves it open.
+    fn read_unclear(self, now: i64) -> Reading
+        ensures { λ r. ⌜ r ≡ reading self now ⌝ }
+    {
+        let taken = self.is_clock();
+        self.read_tested(taken, now)
     }
 
     // The same, once it is known whether it is a clock.

@@ -21,10 +21,10 @@ returns c =
 
 returns-2 : tie.Need-returns-2
 returns-2 c =
-    let if1 = c .before .before in
-    c .read-tested2 .ensures ∙ simp (toZ-ofZ w64 _ (if1 .before .before .fits .now))
+    let s = c .before .before .before in
+    c .read-unclear .ensures ∙ simp (toZ-ofZ w64 _ (s .fits .now))
 
 pub read-spec : {M : Type 1} → statement M
 read-spec =
     tie.close
-    (tie.spec (λ c κs. search needs) read-tested-requires (λ c κs. search needs) (λ c κs. search needs) returns returns-2)
+    (tie.spec (λ c κs. search needs) read-tested-requires (λ c κs. search needs) returns returns-2)
