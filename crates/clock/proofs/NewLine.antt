@@ -31,24 +31,19 @@ use Rattle.clock.proofs.Guarded.{guarded-passed, rest-decides}
 
 -- ---- what rules 1 to 11 leave known
 
+pub record Asked (c : Clock) (u : Request) (now : ℤ) : Type 0 where
+  pub clock : T (isClock c)
+  pub time : InRange now
+  pub values : T (not (valuesOutside u))
+  pub rate : T (not (rateTooWide u))
+
 module _ (c : Clock) (u : Request) (now : ℤ) (e : first (guarded c (requestTable c u now)) ≡ 0) where
-  pub request-taken : T (isClock c)
-  request-taken = guarded-passed c (requestTable c u now) e .0
-
-  request-passed : first (requestTable c u now) ≡ 0
-  request-passed = guarded-passed c (requestTable c u now) e .1
-
-  pub now-passed : InRange now
+  pub asked : Asked c u now
   unfolding requestTable timeTable
-  now-passed = in-range now (passed 1 (requestTable c u now) tt request-passed)
-
-  pub values-passed : T (not (valuesOutside u))
-  unfolding requestTable timeTable
-  values-passed = passed 5 (requestTable c u now) tt request-passed
-
-  pub rate-passed : T (not (rateTooWide u))
-  unfolding requestTable timeTable
-  rate-passed = passed 6 (requestTable c u now) tt request-passed
+  asked =
+      let rows = requestTable c u now in
+      let p = guarded-passed c rows e in
+      record { clock = p .0; time = in-range now (passed 1 rows tt (p .1)); values = passed 5 rows tt (p .1); rate = passed 6 rows tt (p .1) }
 
   -- then the rows of the new line decide
   pub line-decides : first (guarded c (updateTable c u now)) ≡ first (newLineTable c u now)

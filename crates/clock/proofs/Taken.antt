@@ -85,26 +85,24 @@ module _ (c : Clock) where
   kept = cond (isRunning c) (mayRun c) (asCreated c)
 
   module _ (t : T (isClock c)) where
-    taken-kept : T (accepts && kept)
+    taken-parts : T (leb (c .started) 1) × T accepts × T kept
     unfolding isClock
-    taken-kept = and-right (leb (c .started) 1) (accepts && kept) t
-
-    taken-byte : T (leb (c .started) 1)
-    unfolding isClock
-    taken-byte = and-left (leb (c .started) 1) (accepts && kept) t
+    taken-parts =
+        let front = and-left (leb (c .started) 1 && accepts) kept t in
+        (and-left (leb (c .started) 1) accepts front, and-right (leb (c .started) 1) accepts front, and-right (leb (c .started) 1 && accepts) kept t)
 
     pub taken-created : creationRefusal (c .word) (c .backstop) (c .latest) ≡ 0
-    taken-created = eqb→eq (creationRefusal (c .word) (c .backstop) (c .latest)) 0 (and-left accepts kept taken-kept)
+    taken-created = eqb→eq (creationRefusal (c .word) (c .backstop) (c .latest)) 0 (taken-parts .1)
 
     taken-running : T (isRunning c) → T (drawable (c .line) && reaches (c .line) (c .latest) (c .backstop))
     unfolding mayRun
-    taken-running s = subst T (if-true (isRunning c) (mayRun c) (asCreated c) s) (and-right accepts kept taken-kept)
+    taken-running s = subst T (if-true (isRunning c) (mayRun c) (asCreated c) s) (taken-parts .2)
 
     taken-resting : T (not (isRunning c)) → T (not (autoStart (c .word))) × T (isZeros (c .line)) × T (eqb (c .error) UNKNOWN_ERROR) × T (eqb (c .generation) 1)
     unfolding asCreated
     taken-resting n =
         four (not (autoStart (c .word))) (isZeros (c .line)) (eqb (c .error) UNKNOWN_ERROR) (eqb (c .generation) 1)
-        (subst T (if-false (isRunning c) (mayRun c) (asCreated c) n) (and-right accepts kept taken-kept))
+        (subst T (if-false (isRunning c) (mayRun c) (asCreated c) n) (taken-parts .2))
 
     taken-drawn : T (isRunning c) → Drawable (c .line)
     taken-drawn s = drawable-line (c .line) (and-left (drawable (c .line)) (reaches (c .line) (c .latest) (c .backstop)) (taken-running s))
@@ -123,7 +121,7 @@ module _ (c : Clock) where
         let parts = taken-resting n in
         go (c .line) (c .error) (c .generation) (c .started) (autoStart (c .word))
         (taken-identity n) (eqb→eq (c .error) UNKNOWN_ERROR (parts .2)) (eqb→eq (c .generation) 1 (parts .3))
-        (byte-zero (c .started) taken-byte n) (is-false (autoStart (c .word)) (parts .0))
+        (byte-zero (c .started) (taken-parts .0) n) (is-false (autoStart (c .word)) (parts .0))
       where
         told : ℕ → Line → ℕ → ℕ → Clock
         told s l e g = record { backstop = c .backstop; line = l; error = e; latest = c .latest; generation = g; word = c .word; started = s }
@@ -152,9 +150,9 @@ module _ (c : Clock) where
       T (reaches (c .line) (c .latest) (c .backstop)) → T (isClock c)
   unfolding isClock mayRun
   running-taken s e d v =
-      both (leb (c .started) 1) (accepts c && kept c) (one-is-byte (c .started) s)
-      (both (accepts c) (kept c) (subst⁻¹ (λ (n : ℕ). T (eqb n 0)) e tt)
-      (subst⁻¹ T (if-true (isRunning c) (mayRun c) (asCreated c) s) (both (drawable (c .line)) (reaches (c .line) (c .latest) (c .backstop)) d v)))
+      both (leb (c .started) 1 && accepts c) (kept c)
+      (both (leb (c .started) 1) (accepts c) (one-is-byte (c .started) s) (subst⁻¹ (λ (n : ℕ). T (eqb n 0)) e tt))
+      (subst⁻¹ T (if-true (isRunning c) (mayRun c) (asCreated c) s) (both (drawable (c .line)) (reaches (c .line) (c .latest) (c .backstop)) d v))
 
   pub clearly-taken : T (clearlyRuns c) → T (isClock c)
   unfolding clearlyRuns
@@ -185,9 +183,10 @@ later-created word backstop s t e r h =
 pub created-taken : (word : ℕ) (backstop now : ℤ) → creationRefusal word backstop now ≡ 0 → T (isClock (created word backstop now))
 unfolding isClock created mayRun asCreated drawable bounded reaches isZeros timeOutside rateOutside outside
 created-taken word backstop now e =
-    both (leb (byteOf auto) 1) _ (byte-low auto)
-    (both (eqb (creationRefusal word backstop now) 0) _ (subst⁻¹ (λ (n : ℕ). T (eqb n 0)) e tt)
-    (go auto (created-row17 word backstop now e)))
+    let accepted = eqb (creationRefusal word backstop now) 0 in
+    both (leb (byteOf auto) 1 && accepted) _
+    (both (leb (byteOf auto) 1) accepted (byte-low auto) (subst⁻¹ (λ (n : ℕ). T (eqb n 0)) e tt))
+    (go auto (created-row17 word backstop now e))
   where
     auto : Bool
     auto = autoStart word

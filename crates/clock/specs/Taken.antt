@@ -34,8 +34,8 @@ asCreated c =
 unfoldable pub isClock : Clock → Bool
 isClock c =
     leb (c .started) 1
-    && (eqb (creationRefusal (c .word) (c .backstop) (c .latest)) 0
-    && cond (isRunning c) (mayRun c) (asCreated c))
+    && eqb (creationRefusal (c .word) (c .backstop) (c .latest)) 0
+    && cond (isRunning c) (mayRun c) (asCreated c)
 
 -- none of the paper's numbers
 abbrev pub NOT_A_CLOCK : ℕ

@@ -15,19 +15,9 @@ use borrow.Author.Needs.{needs}
 use Rattle.clock.proofs.Clock.is_clock.Statement.{statement}
 use Rattle.clock.proofs.Clock.is_clock.Tie as tie
 
--- the first two tests, and what they leave of the whole
+-- the first two tests
 abbrev firstTests : Clock → Bool
 firstTests r = leb (r .started) 1 && eqb (creationRefusal (r .word) (r .backstop) (r .latest)) 0
-
-passed : (a b x : Bool) → (a && b) ≡ true → (a && (b && x)) ≡ x
-passed true true x e = refl
-passed true false x e = absurd (subst⁻¹ T e tt)
-passed false b x e = absurd (subst⁻¹ T e tt)
-
-failed : (a b x : Bool) → (a && b) ≡ false → (a && (b && x)) ≡ false
-failed true true x e = absurd (subst⁻¹ (λ (t : Bool). T (cond t false true)) e tt)
-failed true false x e = refl
-failed false b x e = refl
 
 -- creation's refusal of the clock's word and backstop at its latest time
 abbrev refusalOf : Clock → ℕ
@@ -66,11 +56,11 @@ module _ (r : Clock) where
 
   whole : firstTests r ≡ true → isClock r ≡ rest
   unfolding isClock
-  whole = passed (leb (r .started) 1) (eqb (refusalOf r) 0) rest
+  whole e = rw e refl
 
   none : firstTests r ≡ false → isClock r ≡ false
   unfolding isClock
-  none = failed (leb (r .started) 1) (eqb (refusalOf r) 0) rest
+  none e = rw e refl
 
 returns : tie.Need-returns
 returns c =

@@ -12,7 +12,7 @@ use Rattle.clock.specs.Update.{point, newLine, newLineTable, updateTable
 use Rattle.clock.specs.Parts.{Judged}
 use Rattle.clock.proofs.Requests.{point-in-range, rate-permitted, old-drawable}
 use Rattle.clock.proofs.Taken.{taken-valid}
-use Rattle.clock.proofs.NewLine.{request-taken, now-passed, values-passed, rate-passed, line-decides, new-begins, found-computable, found-new, passed-in-range}
+use Rattle.clock.proofs.NewLine.{Asked, asked, line-decides, new-begins, found-computable, found-new, passed-in-range}
 use borrow.Author.Needs.{needs}
 use Rattle.clock.proofs.Clock.redraw.Statement.{statement}
 use Rattle.clock.proofs.Clock.redraw.Tie as tie
@@ -20,14 +20,14 @@ use Rattle.clock.proofs.Clock.redraw.Tie as tie
 -- ---- what rules 1 to 11 leave known
 
 module _ (s : tie.Start) where
-  abbrev valid : Valid (s .args .self)
-  valid = taken-valid (s .args .self) (request-taken (s .args .self) (s .args .request) (s .args .now) (s .pre))
+  abbrev known : Asked (s .args .self) (s .args .request) (s .args .now)
+  known = asked (s .args .self) (s .args .request) (s .args .now) (s .pre)
 
-  abbrev time : InRange (s .args .now)
-  time = now-passed (s .args .self) (s .args .request) (s .args .now) (s .pre)
+  abbrev valid : Valid (s .args .self)
+  valid = taken-valid (s .args .self) (known .clock)
 
   abbrev at-point : InRange (point (s .args .request) (s .args .now))
-  at-point = point-in-range (s .args .request) (values-passed (s .args .self) (s .args .request) (s .args .now) (s .pre)) (s .args .now) time
+  at-point = point-in-range (s .args .request) (known .values) (s .args .now) (known .time)
 
 -- ---- what the code finds
 
@@ -63,10 +63,10 @@ judged c =
     let u = s .args .request in
     let now = s .args .now in
     let found : c .line-or .result ≡ lineOr (drawn .new-line .result) (oldLine self) = c .line-or .ensures ∙ simp (old .old-line .ensures) in
-    let begins = new-begins self u now (valid s) (at-point s) (rate-permitted u (rate-passed self u now (s .pre))) in
+    let begins = new-begins self u now (valid s) (at-point s) (rate-permitted u (known s .rate)) in
     record {
       clock = valid s;
-      time = time s;
+      time = known s .time;
       drawn = drawn-is drawn;
       line = found;
       before = old .old-line .ensures;
@@ -82,7 +82,7 @@ new-line-requires : tie.Need-new-line-requires
 new-line-requires c κs =
     let old = c .before in
     let s = old .before in (
-      values-passed (s .args .self) (s .args .request) (s .args .now) (s .pre),
+      known s .values,
       subst Drawable (sym (old .old-line .ensures)) (old-drawable (s .args .self) (valid s)),
       subst InRange (sym (point-is c)) (at-point s),
     )
