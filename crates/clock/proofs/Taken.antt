@@ -6,7 +6,7 @@ use native.Mathlib.Omega.{arith}
 use lib.IntN.{ℤ, pos, negℤ}
 use lib.Signed.{ltZ, leZ, _≤ℤ_}
 use lib.Dec.{T, eqb, leb, leb→le, eqb→eq}
-use Rattle.tables.proofs.Tests.{is-true, is-false, if-true, if-false, both, and-left, and-right, by-cases}
+use Rattle.tables.proofs.Tests.{is-false, if-true, if-false, both, and-left, and-right, by-cases}
 use Rattle.tables.proofs.Tables.{test, passed, nothing-told}
 use Rattle.line.specs.Line.{line, valueAt, isZeros, bounded, reaches}
 use Rattle.line.specs.declared.Line.{Line}
@@ -15,7 +15,7 @@ use Rattle.line.proofs.Laws.{value-identity, reaches-early, zeros-are}
 use Rattle.line.specs.Numbers.{outside}
 use Rattle.clock.specs.Numbers.{END, MAX_RATE, timeOutside, rateOutside}
 use Rattle.clock.specs.Clock.{autoStart, isRunning, byteOf, identity, Drawable, Valid}
-use Rattle.clock.specs.Creation.{creationTable, creationRefusal, created, UNKNOWN_ERROR}
+use Rattle.clock.specs.Creation.{creationTable, creationRefusal, created, UNKNOWN_ERROR, FIRST_GENERATION}
 use Rattle.clock.specs.Taken.{drawable, mayRun, asCreated, isClock, zeroClock}
 use Rattle.clock.specs.Parts.{clearlyRuns}
 use Rattle.clock.specs.declared.Clock.{Clock}
@@ -98,10 +98,10 @@ module _ (c : Clock) where
     unfolding mayRun
     taken-running s = subst T (if-true (isRunning c) (mayRun c) (asCreated c) s) (taken-parts .2)
 
-    taken-resting : T (not (isRunning c)) → T (not (autoStart (c .word))) × T (isZeros (c .line)) × T (eqb (c .error) UNKNOWN_ERROR) × T (eqb (c .generation) 1)
+    taken-resting : T (not (isRunning c)) → T (not (autoStart (c .word))) × T (isZeros (c .line)) × T (eqb (c .error) UNKNOWN_ERROR) × T (eqb (c .generation) FIRST_GENERATION)
     unfolding asCreated
     taken-resting n =
-        four (not (autoStart (c .word))) (isZeros (c .line)) (eqb (c .error) UNKNOWN_ERROR) (eqb (c .generation) 1)
+        four (not (autoStart (c .word))) (isZeros (c .line)) (eqb (c .error) UNKNOWN_ERROR) (eqb (c .generation) FIRST_GENERATION)
         (subst T (if-false (isRunning c) (mayRun c) (asCreated c) n) (taken-parts .2))
 
     taken-drawn : T (isRunning c) → Drawable (c .line)
@@ -120,14 +120,14 @@ module _ (c : Clock) where
     resting-created n =
         let parts = taken-resting n in
         go (c .line) (c .error) (c .generation) (c .started) (autoStart (c .word))
-        (taken-identity n) (eqb→eq (c .error) UNKNOWN_ERROR (parts .2)) (eqb→eq (c .generation) 1 (parts .3))
+        (taken-identity n) (eqb→eq (c .error) UNKNOWN_ERROR (parts .2)) (eqb→eq (c .generation) FIRST_GENERATION (parts .3))
         (byte-zero (c .started) (taken-parts .0) n) (is-false (autoStart (c .word)) (parts .0))
       where
         told : ℕ → Line → ℕ → ℕ → Clock
         told s l e g = record { backstop = c .backstop; line = l; error = e; latest = c .latest; generation = g; word = c .word; started = s }
 
-        go : (l : Line) (e g s : ℕ) (a : Bool) → l ≡ identity → e ≡ UNKNOWN_ERROR → g ≡ 1 → s ≡ 0 → a ≡ false →
-            told (byteOf a) identity UNKNOWN_ERROR 1 ≡ told s l e g
+        go : (l : Line) (e g s : ℕ) (a : Bool) → l ≡ identity → e ≡ UNKNOWN_ERROR → g ≡ FIRST_GENERATION → s ≡ 0 → a ≡ false →
+            told (byteOf a) identity UNKNOWN_ERROR FIRST_GENERATION ≡ told s l e g
         go l e g s a p q r h k = simp (p, q, r, h, k)
 
     -- what is taken for a clock keeps to what every clock keeps to
@@ -161,9 +161,8 @@ module _ (c : Clock) where
       let enough = leZ (c .backstop) (c .line .synthetic) in
       let front = isRunning c && accepts c && drawable (c .line) && begun in
       let parts = four (isRunning c) (accepts c) (drawable (c .line)) begun (and-left front enough t) in
-      let later : (begun && enough) ≡ true = is-true (begun && enough) (both begun enough (parts .3) (and-right front enough t)) in
       running-taken (parts .0) (eqb→eq (creationRefusal (c .word) (c .backstop) (c .latest)) 0 (parts .1)) (parts .2)
-      (subst⁻¹ T (reaches-early (c .line) (c .latest) (c .backstop) (rises (drawable-line (c .line) (parts .2) .rate)) later) tt)
+      (reaches-early (c .line) (c .latest) (c .backstop) (rises (drawable-line (c .line) (parts .2) .rate)) (parts .3) (and-right front enough t))
 
 -- ---- creation
 

@@ -1,12 +1,13 @@
 -- The laws of lines that callers use: no caller unfolds a definition of the line.
-use mathlib.Core.Path.{_≡_, refl, ap, subst, subst⁻¹}
-use mathlib.Core.Bool.{Bool, true, false, _&&_}
+use mathlib.Core.Path.{_≡_, refl, ap, subst}
+use mathlib.Core.Bool.{_&&_}
 use Prim.Native.Nat.{ℕ}
 use native.Mathlib.Nat.{mul-le-mul-right, add-mul}
 use native.Mathlib.Omega.{arith}
 use lib.IntN.{ℤ, pos, negsuc, _+ℤ_, _-ℤ_, _*ℤ_, +ℤ-idr, +ℤ-invr, zero-*ℤ}
 use lib.Signed.{leZ, _≤ℤ_, leZ-yes}
 use lib.Dec.{T, eqb→eq}
+use mir.Facts.{and-yes}
 use Rattle.line.specs.Numbers.{million, floorDiv, isZero}
 use Rattle.line.specs.Line.{line, zeroLine, slope, valueAt, exactAt, turned, isZeros, reaches, Rising}
 use Rattle.line.specs.declared.Line.{Line}
@@ -83,27 +84,13 @@ pub value-begins : (l : Line) → valueAt l (l .reference) ≡ l .synthetic
 unfolding valueAt
 value-begins l = rw (+ℤ-invr (l .reference), zero-*ℤ (slope (l .rate))) (+ℤ-idr (l .synthetic))
 
--- the parts of a test
-parts : (a b : Bool) → T (a && b) → T a × T b
-parts true true t = (tt, tt)
-parts true false t = absurd t
-parts false b t = absurd t
-
 -- from its beginning on a line shows at least S0
-pub reaches-early : (l : Line) (t b : ℤ) → Rising (l .rate) → (leZ (l .reference) t && leZ b (l .synthetic)) ≡ true → reaches l t b ≡ true
+pub reaches-early : (l : Line) (t b : ℤ) → Rising (l .rate) → T (leZ (l .reference) t) → T (leZ b (l .synthetic)) → T (reaches l t b)
 unfolding reaches
-reaches-early l t b p e =
-    let both = subst⁻¹ T e tt in
-    let begun = leZ (l .reference) t in
-    let enough = leZ b (l .synthetic) in
-    let early : l .reference ≤ℤ t = leZ-yes (parts begun enough both .0) in
-    let high : b ≤ℤ l .synthetic = leZ-yes (parts begun enough both .1) in
-    let later = subst (λ (v : ℤ). v ≤ℤ valueAt l t) (value-begins l) (value-rises l (l .reference) t p early) in
-    is-true (leZ b (valueAt l t)) (≤ℤ-trans high later .le)
-  where
-    is-true : (b : Bool) → T b → b ≡ true
-    is-true true t = refl
-    is-true false t = absurd t
+reaches-early l t b p begun enough =
+    let early : l .reference ≤ℤ t = leZ-yes begun in
+    let high : b ≤ℤ l .synthetic = leZ-yes enough in
+    ≤ℤ-trans high (subst (λ (v : ℤ). v ≤ℤ valueAt l t) (value-begins l) (value-rises l (l .reference) t p early)) .le
 
 -- a line that begins at 0 with 0 and the rate 0 has the value t at t
 pub value-identity : (t : ℤ) → valueAt (line (pos 0) (pos 0) (pos 0)) t ≡ t
@@ -122,8 +109,8 @@ unfolding isZeros
 zeros-are l t =
     let R = isZero (l .reference) in
     let S = isZero (l .synthetic) in
-    let front = parts (R && S) (isZero (l .rate)) t in
-    let begin = parts R S (front .0) in
+    let front = and-yes (R && S) (isZero (l .rate)) t in
+    let begin = and-yes R S (front .0) in
     go (l .reference) (l .synthetic) (l .rate) (zero-is (l .reference) (begin .0)) (zero-is (l .synthetic) (begin .1)) (zero-is (l .rate) (front .1))
   where
     go : (R S a : ℤ) → R ≡ pos 0 → S ≡ pos 0 → a ≡ pos 0 → line R S a ≡ zeroLine

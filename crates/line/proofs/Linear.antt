@@ -124,7 +124,7 @@ times-lin (negsuc a) k = (neg-up (pos (suc a * k)) ∙ omega arith, neg-dn (pos 
 -- v is x, in millionths, rounded down to whole units
 pub record Floors (x v : ℤ) : Type 0 where
   pub below : up v * million + dn x ≤ up x + dn v * million
-  pub above : up x + dn v * million ≤ up v * million + dn x + 999999
+  pub above : up x + dn v * million ≤ up v * million + dn x + (million - 1)
 
 pub floor-lin : (x : ℤ) → Floors x (floorDiv x million)
 floor-lin (pos n) = record { below = omega arith; above = omega arith }

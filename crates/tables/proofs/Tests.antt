@@ -29,12 +29,6 @@ pub by-cases : {A : Type 0} (b : Bool) → (T b → A) → (T (not b) → A) →
 by-cases true f g = f tt
 by-cases false f g = g tt
 
-pub same-test : (a b : Bool) → (T a → T b) → (T b → T a) → a ≡ b
-same-test true true f g = refl
-same-test true false f g = absurd (f tt)
-same-test false true f g = absurd (g tt)
-same-test false false f g = refl
-
 -- ---- two tests
 
 pub both : (a b : Bool) → T a → T b → T (a && b)

@@ -1,6 +1,8 @@
-use mathlib.Core.Path.{_≡_, sym, ap, _∙_}
-use mathlib.Core.Bool.{not}
-use lib.Signed.{ltZ}
+use mathlib.Core.Path.{_≡_, refl, ap, _∙_, subst⁻¹}
+use mathlib.Core.Bool.{Bool, true, false, not, _&&_}
+use lib.Signed.{ltZ, leZ}
+use lib.Dec.{T}
+use mir.Facts.{and-yes}
 use mir.Syntax.{w64}
 use mir.Val.{toZ, ofZ}
 use mir.ValLaws.{toZ-ofZ}
@@ -18,8 +20,15 @@ returns c =
     let l = s .args .self in
     let reference : toZ w64 (ofZ w64 (l .reference)) ≡ l .reference = search needs in
     let synthetic : toZ w64 (ofZ w64 (l .synthetic)) ≡ l .synthetic = search needs in
-    sym (reaches-early l (s .args .t) (s .args .bound) (s .pre .0 .rate)
-    (simp (reference, synthetic, toZ-ofZ w64 _ (s .fits .t), toZ-ofZ w64 _ (s .fits .bound)) at (c .if1 .taken)))
+    let begun = leZ (l .reference) (s .args .t) in
+    let enough = leZ (s .args .bound) (l .synthetic) in
+    let passed : (begun && enough) ≡ true = simp (reference, synthetic, toZ-ofZ w64 _ (s .fits .t), toZ-ofZ w64 _ (s .fits .bound)) at (c .if1 .taken) in
+    let both = and-yes begun enough (subst⁻¹ T passed tt) in
+    is-true (reaches l (s .args .t) (s .args .bound)) (reaches-early l (s .args .t) (s .args .bound) (s .pre .0 .rate) (both .0) (both .1))
+  where
+    is-true : (b : Bool) → T b → true ≡ b
+    is-true true t = refl
+    is-true false t = absurd t
 
 returns-2 : tie.Need-returns-2
 unfolding reaches
