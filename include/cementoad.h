@@ -1,9 +1,9 @@
-/* Cementoad: a clock that cannot lie, and its update slips.
+/* Cementoad: a clock for machines that stamp bookings, and its update slips.
  *
  * Link with target/staticlib/libcementoad.a, which tools/archive makes for x86-64 Linux. Times and values are whole
- * nanoseconds. Any number may be handed in, in any field; each function ends, and answers a value or one numbered
- * refusal. A refusal of 0 is none. Nothing is allocated, nothing is kept between calls, and no function needs a
- * lock. */
+ * nanoseconds, and now is what the caller's own counter says. Any number may be handed in, in any field; each call
+ * comes back, with a value or with the number of one refusal, 0 for none. Nothing is allocated, and nothing is kept
+ * between calls: callers who share a clock order its updates themselves. docs/REFERENCE.md tells more. */
 #ifndef CEMENTOAD_H
 #define CEMENTOAD_H
 
@@ -44,8 +44,8 @@ uint32_t cementoad_abi(void);
 /* The bytes of the longest slip. */
 #define CEMENTOAD_LONGEST_SLIP 27
 
-/* The bits of a creation word: readings never fall while the times don't; the line is never broken; the clock starts
- * at creation. */
+/* The bits of a creation word: readings never fall while the times don't; no update moves what the clock shows at that
+ * now while it runs; the clock starts at creation. */
 #define CEMENTOAD_MONOTONIC UINT8_C(128)
 #define CEMENTOAD_CONTINUOUS UINT8_C(64)
 #define CEMENTOAD_AUTO_START UINT8_C(32)
@@ -62,47 +62,47 @@ uint32_t cementoad_abi(void);
 enum cementoad_refusal {
     /* Nothing is refused. */
     CEMENTOAD_NO_REFUSAL = 0,
-    /* Now is outside 0..END. */
+    /* Now lies outside 0..END. */
     CEMENTOAD_NOW_OUTSIDE = 1,
-    /* Now is before the latest accepted update, or creation. */
+    /* Now lies before the clock's latest time. */
     CEMENTOAD_NOW_EARLY = 2,
-    /* A version is not known, or a bit is set that must be zero. */
+    /* A bit is set that must be zero, or a version isn't known. */
     CEMENTOAD_WORD_WRONG = 3,
-    /* Nothing is flagged. */
+    /* No argument is flagged. */
     CEMENTOAD_NOTHING_FLAGGED = 4,
-    /* A time or a value is outside its range. */
+    /* A time or a value lies outside its range. */
     CEMENTOAD_VALUE_OUTSIDE = 5,
-    /* A flagged rate is outside -1000..1000. */
+    /* A rate lies outside -1000..1000. */
     CEMENTOAD_RATE_OUTSIDE = 6,
-    /* Reference is flagged, but neither synthetic nor rate. */
+    /* A reference comes with neither a value nor a rate. */
     CEMENTOAD_REFERENCE_ALONE = 7,
-    /* The clock isn't started, for what only a started one takes. */
+    /* The clock isn't started, and what is asked needs one that is. */
     CEMENTOAD_NOT_STARTED = 8,
-    /* The clock is continuous and reference is flagged. */
+    /* A continuous clock is handed a reference, at its start or later. */
     CEMENTOAD_CONTINUOUS_REFERENCE = 9,
-    /* The clock is continuous and started, and synthetic is flagged. */
+    /* A continuous clock that runs is to be set. */
     CEMENTOAD_CONTINUOUS_SET = 10,
-    /* The clock is monotonic and started, and synthetic and rate are both flagged. */
+    /* A monotonic clock that runs is handed a value and a rate at once. */
     CEMENTOAD_MONOTONIC_SET_AND_RATE = 11,
-    /* The new line starts outside 0..END, or the value at now is above END. */
+    /* A line's value lies outside 0..END where it begins, or above END at now. */
     CEMENTOAD_LINE_OUTSIDE = 12,
-    /* The new line's value at now is below the backstop. */
+    /* The clock would show less than its backstop. */
     CEMENTOAD_BELOW_BACKSTOP = 13,
-    /* The clock is monotonic and started, and the new value at now is below the old one. */
+    /* A monotonic clock that runs would show less than it does. */
     CEMENTOAD_MONOTONIC_BACK = 14,
-    /* Creation: continuous without monotonic. */
+    /* A new clock is to be continuous without being monotonic. */
     CEMENTOAD_CONTINUOUS_NOT_MONOTONIC = 15,
-    /* Creation: the backstop is outside 0..END. */
+    /* A new clock's backstop lies outside 0..END. */
     CEMENTOAD_BACKSTOP_OUTSIDE = 16,
-    /* Creation: auto start with the backstop above now. */
+    /* A new clock is to start at once, with its backstop ahead of now. */
     CEMENTOAD_BACKSTOP_AHEAD = 17,
     /* There are fewer bytes than what is read calls for. */
     CEMENTOAD_TOO_SHORT = 18,
-    /* A padding bit of a slip is set. */
+    /* A padding bit is set. */
     CEMENTOAD_PADDING_SET = 19,
-    /* Bytes are left over after what is read. */
+    /* Bytes follow what is read. */
     CEMENTOAD_BYTES_LEFT_OVER = 20,
-    /* The buffer is shorter than what is written. */
+    /* The buffer is too short for what is written. */
     CEMENTOAD_BUFFER_SHORT = 21,
     /* Not of the paper, and checked before all others: what is handed in for a clock fails the test that is told at
      * struct cementoad_clock. */
@@ -134,12 +134,12 @@ struct cementoad_line {
  *     the latest time is not below the backstop; or
  *   - started is 0, auto start is not set, and line, error and generation are as creation leaves them.
  * So zeros are no clock. Of a made-up clock that passes nothing is promised but this: each call ends and answers by
- * the same rules, what an update hands back passes again, no reading is below the backstop or outside 0..END, and a
+ * the same rules, what an update hands back passes again, readings lie in 0..END and not under the backstop, and a
  * refused update hands back every field as it was. */
 struct cementoad_clock {
     /* The line that the clock follows, zeros before the start. */
     struct cementoad_line line;
-    /* No reading is below it. */
+    /* The least that the clock ever shows. */
     int64_t backstop;
     /* The time of the latest accepted update, or of creation before any. */
     int64_t latest;
@@ -159,7 +159,7 @@ struct cementoad_request {
     uint64_t word;
     /* The value to set, in nanoseconds. */
     int64_t synthetic;
-    /* The reference time at which the new line begins, in nanoseconds; now where it isn't flagged. */
+    /* The reference time at which the new line has its value, in nanoseconds; now where it isn't flagged. */
     int64_t reference;
     /* The rate adjustment, in parts per million. */
     int32_t rate;
@@ -199,7 +199,7 @@ struct cementoad_details {
     int64_t latest;
     /* The creation word. */
     uint8_t word;
-    /* No reading is below it. */
+    /* The least that the clock ever shows. */
     int64_t backstop;
     /* The time that was asked about. */
     int64_t now;
@@ -225,7 +225,7 @@ struct cementoad_written {
 
 /* ---- clocks */
 
-/* A clock, or refusal 1, 3, 15, 16 or 17. Unless auto start is set the clock isn't started. */
+/* A clock, or refusal 1, 3, 15, 16 or 17. Only with auto start does it run at once. */
 CEMENTOAD_ANSWERS
 struct cementoad_created cementoad_create(uint8_t word, int64_t backstop, int64_t now);
 
@@ -245,7 +245,8 @@ struct cementoad_detailed cementoad_get_details(struct cementoad_clock clock, in
 CEMENTOAD_ANSWERS
 bool cementoad_is_started(struct cementoad_clock clock);
 
-/* ---- slips. A pointer is to as many bytes as the number behind it says, and is never NULL, not even for 0 bytes. */
+/* ---- slips. A pointer leads to as many bytes as the next argument says, and is never NULL, not even for 0 bytes. Nobody
+ * else writes there during the call. */
 
 /* The request of a slip that is all of the bytes, or refusal 3, 6, 18, 19 or 20. */
 CEMENTOAD_ANSWERS

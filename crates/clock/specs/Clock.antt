@@ -12,7 +12,7 @@ use Rattle.line.specs.declared.Line.{Line}
 use Rattle.clock.specs.Numbers.{END, MAX_RATE, timeOutside, bit}
 use Rattle.clock.specs.declared.Clock.{Clock}
 
--- the creation word: monotonic 128, continuous 64, auto start 32 (01, 'Creation')
+-- the three flags of a creation word, from its top bit down (01, 'Creation')
 abbrev pub monotonic : ℕ → Bool
 monotonic word = bit 7 word
 
@@ -39,7 +39,7 @@ identity = line (pos 0) (pos 0) (pos 0)
 unfoldable pub oldLine : Clock → Line
 oldLine c = cond (isRunning c) (c .line) identity
 
--- refusals 1 and 2, of a call at now: outside 0..END; before the latest accepted update or, without one, creation
+-- rows 1 and 2, of any call on a clock: now is out of range, or earlier than the clock's latest time
 unfoldable pub timeTable : Clock → ℤ → List Row
 timeTable c now =
     (1 when timeOutside now

@@ -50,7 +50,7 @@ created word backstop now = record {
   started = byteOf (autoStart word);
 }
 
--- the answer: a refusal's number, 0 for none, and the clock; a refused creation gives no clock
+-- the answer: a refusal's number, 0 for none, and the clock, if there is one
 pub record Creation : Type 0 where
   pub refusal : ℕ
   pub clock : Option Clock

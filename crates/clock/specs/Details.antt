@@ -43,7 +43,7 @@ zeroDetails = record {
   now = pos 0;
 }
 
--- the answer; a refused request gives zeros
+-- the answer; zeros where it is refused
 unfoldable pub detailing : Clock → ℤ → Detailed
 detailing c now =
     answer (guarded c (detailsTable c now))

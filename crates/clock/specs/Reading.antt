@@ -19,7 +19,7 @@ clockValue c now = cond (isRunning c) (valueAt (c .line) now) (c .backstop)
 unfoldable pub readingTable : Clock → ℤ → List Row
 readingTable c now = timeTable c now ++ (12 when ltZ END (clockValue c now) ∷ [])
 
--- the answer; a refused reading gives 0 beside its number
+-- the answer; 0 where it is refused
 unfoldable pub reading : Clock → ℤ → Reading
 reading c now =
     answer (guarded c (readingTable c now))

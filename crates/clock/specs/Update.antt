@@ -18,7 +18,7 @@ use Rattle.clock.specs.declared.Request.{Request}
 use Rattle.clock.specs.declared.Flags.{Flags}
 use Rattle.clock.specs.declared.Updated.{Updated}
 
--- ---- the update word: version 6 bits; synthetic, reference, rate, error; 54 zero bits
+-- ---- the update word, from the top: its version, four flags, and 54 bits that are not in use
 
 -- the one version there is
 abbrev pub versionKnown : ℕ → Bool
@@ -99,7 +99,7 @@ requestTable c u now =
     ∷ 11 when (isMonotonic && isRunning c && hasSynthetic u && hasRate u)
     ∷ [])
 
--- then those of the new line, which apply only where the line is replaced
+-- then those that judge a new line; a line that stays is not asked
 unfoldable pub newLineTable : Clock → Request → ℤ → List Row
 newLineTable c u now =
     let new = newLine c u now in
@@ -131,7 +131,7 @@ updated c u now = record {
   started = byteOf (isRunning c || hasSynthetic u);
 }
 
--- the answer: the new clock, or the old one with a refusal
+-- the answer; beside a refusal stands the clock that was handed in
 unfoldable pub updating : Clock → Request → ℤ → Updated
 updating c u now =
     answer (guarded c (updateTable c u now))

@@ -61,7 +61,7 @@ pub enum Created {
     Refused(u8),
 }
 
-// The clock after an update, or the old one with a refusal. Refusal 0 is none.
+// The clock that an update leaves; beside a refusal it is the one that was handed in. Refusal 0 is none.
 #[repr(C)]
 pub struct Updated {
     pub clock: Clock,

@@ -40,7 +40,7 @@ pub demand2·update : Demand2·update
 demand2·update word backstop now c e calls =
     of-each (λ d. T (isClock d)) after-clock AsWritten written c calls (creation-gives-clock word backstop now c e)
 
--- ---- no reading is below the backstop
+-- ---- the backstop
 
 call-not-below : (word : ℕ) (backstop : ℤ) (c : Clock) (k : Call) → Kept word backstop c → NotBelow backstop (given c k)
 call-not-below word backstop c k h = of-given (NotBelow backstop) c k tt
@@ -67,7 +67,7 @@ update-not-back c u now t m = by-cases (isRunning c) running resting
     resting : T (not (isRunning c)) → clockValue c now ≤ℤ clockValue (updated c u now) now
     resting n = rw (resting-value c now n) (above-backstop (updated c u now) now (updated-valid c u now t) (≤ℤ-refl now))
 
--- ---- while the times don't fall, a monotonic clock's readings never fall
+-- ---- a monotonic clock over times that don't fall
 
 -- the monotonic clock c reads at least r from the time τ on
 pub record ReadsFrom (τ r : ℤ) (c : Clock) : Type 0 where
@@ -133,7 +133,7 @@ demand2·monotonic word backstop now c e m before stretch h =
     let start = reads-from-latest d (taken-valid d (k .clock)) (subst⁻¹ (λ (w : ℕ). T (monotonic w)) (k .sameWord) m) in
     from-never-falls (d .backstop) (readings d stretch) (walk stretch (d .latest) (d .backstop) d start (times-late stretch d h))
 
--- ---- on a running continuous clock the old and new line agree at each update
+-- ---- a continuous clock that runs
 
 pub agrees : (c : Clock) (k : Call) → Agrees c k
 unfolding updated

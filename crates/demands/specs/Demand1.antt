@@ -1,5 +1,5 @@
--- Demand 1: each operation answers a value, or the one numbered refusal that its table gives; a refusal hands the
--- clock back unaltered and answers the zeros that 01 names. Any numbers may be handed in for a clock.
+-- Demand 1: an answer is settled by its table, of whatever numbers are handed in, for a clock too; after a refusal the
+-- clock is as it was, and zeros stand where 01 asks for them.
 use mathlib.Core.Bool.{not}
 use mathlib.Core.List.{List}
 use mathlib.Core.Option.{none, some}

@@ -1,4 +1,4 @@
--- The line (R0, S0, a), its value at a time and its exact value in millionths.
+-- Lines: the value at a time, and the exact value in millionths.
 use mathlib.Core.Bool.{Bool, not, _&&_}
 use Prim.Native.Nat.{_-_}
 use lib.IntN.{ℤ, pos, negℤ, _+ℤ_, _-ℤ_, _*ℤ_}
@@ -18,7 +18,7 @@ zeroLine = line (pos 0) (pos 0) (pos 0)
 abbrev pub slope : ℤ → ℤ
 slope a = pos million +ℤ a
 
--- S0 + floor((t - R0) x (1,000,000 + a) / 1,000,000), the whole number, whatever the range (01, 'The clock we sell')
+-- S0 + floor((t - R0) x (1,000,000 + a) / 1,000,000), of any size (01, 'The clock we sell')
 unfoldable pub valueAt : Line → ℤ → ℤ
 valueAt l t = l .synthetic +ℤ floorDiv ((t -ℤ l .reference) *ℤ slope (l .rate)) million
 

@@ -1,4 +1,4 @@
--- Demand 1, of slips: each answer is what its table says, and arguments not flagged are ignored.
+-- Demand 1, of slips: each answer is what its table says, and what isn't flagged does not count.
 use mathlib.Core.Path.{_≡_, refl}
 use mathlib.Core.Bool.{false}
 use mathlib.Core.List.{List}

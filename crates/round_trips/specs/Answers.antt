@@ -1,5 +1,5 @@
 -- Demand 1, of slips: each answer is what its table says; a refused reading gives zeros, and a refused writing leaves
--- every byte. And arguments not flagged are ignored.
+-- every byte. And what isn't flagged does not count.
 use mathlib.Core.List.{List}
 use mathlib.Core.Path.{_≡_}
 use Prim.Native.Nat.{ℕ}

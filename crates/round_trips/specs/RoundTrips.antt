@@ -1,4 +1,4 @@
--- Demand 2, of slips: written slips read back as the same request, and accepted slips are rewritten byte for byte.
+-- Demand 2, of slips: there and back from a request, and there and back from bytes.
 use mathlib.Core.Bool.{not}
 use mathlib.Core.List.{List, _++_}
 use mathlib.Core.Path.{_≡_}

@@ -41,7 +41,7 @@ pub const VERSION_2: u64 = 2 << 58;
 /// The flag of the value to set.
 pub const SYNTHETIC: u64 = 1 << 57;
 
-/// The flag of the reference time at which the new line starts.
+/// The flag of the reference time at which the new line has its value.
 pub const REFERENCE: u64 = 1 << 56;
 
 /// The flag of the rate adjustment.
@@ -75,7 +75,8 @@ pub struct Line {
 /// - `started` is 0, auto start is not set, and line, error and generation are as creation leaves them.
 ///
 /// So zeros are no clock. Of a made-up clock that passes nothing is promised but this: each call ends and answers by
-/// the same rules, what an update hands back passes again, and no reading is below the backstop or outside 0..END.
+/// the same rules, what an update hands back passes again, readings lie in 0..END and not under the backstop, and a
+/// refused update hands back every field as it was.
 #[repr(C)]
 #[derive(Clone, Copy, Debug, Default, PartialEq, Eq, Hash)]
 pub struct Clock {
@@ -103,7 +104,7 @@ pub struct Request {
     pub word: u64,
     /// The value to set, in nanoseconds.
     pub synthetic: i64,
-    /// The reference time at which the new line starts, in nanoseconds.
+    /// The reference time at which the new line has its value, in nanoseconds.
     pub reference: i64,
     /// The rate adjustment, in parts per million.
     pub rate: i32,

@@ -17,7 +17,7 @@ macro_rules! refusals {
         /// let refusal = Refusal::RateOutside;
         /// assert_eq!(refusal.number(), 6);
         /// assert_eq!(refusal.public_name(), "INVALID_ARGS");
-        /// assert_eq!(refusal.to_string(), "refusal 6: a flagged rate is outside -1000..1000");
+        /// assert_eq!(refusal.to_string(), "refusal 6: a rate lies outside -1000..1000");
         /// assert_eq!(Refusal::try_from(6), Ok(refusal));
         /// ```
         #[repr(u8)]
@@ -59,29 +59,28 @@ macro_rules! refusals {
 }
 
 refusals! {
-    (1, NowOutside, "NOW_OUTSIDE", "now is outside 0..END");
-    (2, NowEarly, "NOW_EARLY", "now is before the latest accepted update or creation");
-    (3, WordWrong, "WORD_WRONG", "a version is not known, or a bit is set that must be zero");
-    (4, NothingFlagged, "NOTHING_FLAGGED", "nothing is flagged");
-    (5, ValueOutside, "VALUE_OUTSIDE", "a time or a value is outside its range");
-    (6, RateOutside, "RATE_OUTSIDE", "a flagged rate is outside -1000..1000");
-    (7, ReferenceAlone, "REFERENCE_ALONE", "reference is flagged, but neither synthetic nor rate");
-    (8, NotStarted, "NOT_STARTED", "the clock isn't started, for what only a started one takes");
-    (9, ContinuousReference, "CONTINUOUS_REFERENCE", "the clock is continuous and reference is flagged");
-    (10, ContinuousSet, "CONTINUOUS_SET", "the clock is continuous and started, and synthetic is flagged");
+    (1, NowOutside, "NOW_OUTSIDE", "now lies outside 0..END");
+    (2, NowEarly, "NOW_EARLY", "now lies before the clock's latest time");
+    (3, WordWrong, "WORD_WRONG", "a bit is set that must be zero, or a version isn't known");
+    (4, NothingFlagged, "NOTHING_FLAGGED", "no argument is flagged");
+    (5, ValueOutside, "VALUE_OUTSIDE", "a time or a value lies outside its range");
+    (6, RateOutside, "RATE_OUTSIDE", "a rate lies outside -1000..1000");
+    (7, ReferenceAlone, "REFERENCE_ALONE", "a reference comes with neither a value nor a rate");
+    (8, NotStarted, "NOT_STARTED", "the clock isn't started, and what is asked needs one that is");
+    (9, ContinuousReference, "CONTINUOUS_REFERENCE", "a continuous clock is handed a reference, at its start or later");
+    (10, ContinuousSet, "CONTINUOUS_SET", "a continuous clock that runs is to be set");
     (11, MonotonicSetAndRate, "MONOTONIC_SET_AND_RATE",
-        "the clock is monotonic and started, and synthetic and rate are both flagged");
-    (12, LineOutside, "LINE_OUTSIDE", "the new line starts outside 0..END, or the value at now is above END");
-    (13, BelowBackstop, "BELOW_BACKSTOP", "the new line's value at now is below the backstop");
-    (14, MonotonicBack, "MONOTONIC_BACK",
-        "the clock is monotonic and started, and the new value at now is below the old one");
+        "a monotonic clock that runs is handed a value and a rate at once");
+    (12, LineOutside, "LINE_OUTSIDE", "a line's value lies outside 0..END where it begins, or above END at now");
+    (13, BelowBackstop, "BELOW_BACKSTOP", "the clock would show less than its backstop");
+    (14, MonotonicBack, "MONOTONIC_BACK", "a monotonic clock that runs would show less than it does");
     (15, ContinuousNotMonotonic, "CONTINUOUS_NOT_MONOTONIC", "a new clock is to be continuous without being monotonic");
-    (16, BackstopOutside, "BACKSTOP_OUTSIDE", "a new clock's backstop is outside 0..END");
-    (17, BackstopAhead, "BACKSTOP_AHEAD", "a new clock is to start at once and its backstop is above now");
+    (16, BackstopOutside, "BACKSTOP_OUTSIDE", "a new clock's backstop lies outside 0..END");
+    (17, BackstopAhead, "BACKSTOP_AHEAD", "a new clock is to start at once, with its backstop ahead of now");
     (18, TooShort, "TOO_SHORT", "there are fewer bytes than what is read calls for");
-    (19, PaddingSet, "PADDING_SET", "a padding bit of a slip is set");
-    (20, BytesLeftOver, "BYTES_LEFT_OVER", "bytes are left over after what is read");
-    (21, BufferShort, "BUFFER_SHORT", "the buffer is shorter than what is written");
+    (19, PaddingSet, "PADDING_SET", "a padding bit is set");
+    (20, BytesLeftOver, "BYTES_LEFT_OVER", "bytes follow what is read");
+    (21, BufferShort, "BUFFER_SHORT", "the buffer is too short for what is written");
 }
 
 impl Refusal {

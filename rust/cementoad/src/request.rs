@@ -42,7 +42,7 @@ impl Request {
     /// The flag of the value to set.
     pub const SYNTHETIC: u64 = ffi::SYNTHETIC;
 
-    /// The flag of the reference time at which the new line starts.
+    /// The flag of the reference time at which the new line has its value.
     pub const REFERENCE: u64 = ffi::REFERENCE;
 
     /// The flag of the rate adjustment.
@@ -65,13 +65,13 @@ impl Request {
         self.flag(Request::SYNTHETIC)
     }
 
-    /// Starts the new line at this reference time, in nanoseconds, and not at now.
+    /// Has the new line go through its value at this reference time, in nanoseconds, and not at now.
     pub const fn reference(mut self, time: i64) -> Request {
         self.raw.reference = time;
         self.flag(Request::REFERENCE)
     }
 
-    /// Adjusts the clock's rate by this, in parts per million.
+    /// Sets the clock's rate adjustment to this, in parts per million.
     pub const fn rate(mut self, rate: i32) -> Request {
         self.raw.rate = rate;
         self.flag(Request::RATE)

@@ -12,7 +12,7 @@ use crate::{library, second_side};
 /// A list under way.
 pub struct Run<'a> {
     met: &'a mut Met,
-    /// The clock as the call before left it; zeros where there is none.
+    /// The clock that the last call left; zeros where there is none.
     pub clock: Clock,
     /// None beside a clock that is made up.
     witness: Option<Witness>,

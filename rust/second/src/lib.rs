@@ -2,7 +2,7 @@
 //!
 //! Everything follows the paper 01 in its order and with its numbers. All times, values and rates are kept as 128-bit
 //! whole numbers, so that no argument of 64 bits can overflow anything. Refusals are written as tables of rows
-//! (number, applies), of which the first that applies is the answer; only a slip too short for its next row is told
+//! (number, applies), and the first row that holds gives the number; only a slip too short for its next row is told
 //! at once.
 
 mod clock;
