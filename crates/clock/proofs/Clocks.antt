@@ -4,7 +4,8 @@ use mathlib.Core.Bool.{Bool, true, false, not, _&&_, _||_}
 use lib.IntN.{ℤ}
 use lib.Signed.{_≤ℤ_}
 use lib.Dec.{T}
-use Rattle.tables.proofs.Tests.{neither-left, fails-second, other, by-cases}
+use mir.Facts.{or-no}
+use Rattle.tables.proofs.Tests.{fails-second, other, by-cases}
 use Rattle.line.specs.Line.{valueAt, reaches}
 use Rattle.clock.specs.Clock.{isRunning, oldLine, Drawable, Valid}
 use Rattle.clock.specs.Taken.{isClock}
@@ -49,7 +50,7 @@ module _ (c : Clock) (u : Request) (now : ℤ) (t : T (accepted c (update u now)
   updated-started = subst⁻¹ T (byte-is (isRunning c || hasSynthetic u)) started-or-set
 
   unreplaced-started : T (not (replaces u)) → T (isRunning c)
-  unreplaced-started n = other (isRunning c) (hasSynthetic u) started-or-set (neither-left (hasSynthetic u) (hasRate u) n)
+  unreplaced-started n = other (isRunning c) (hasSynthetic u) started-or-set (or-no (hasSynthetic u) (hasRate u) n .0)
 
   pub new-drawable : Drawable (newLine c u now)
   new-drawable =

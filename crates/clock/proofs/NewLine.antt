@@ -7,7 +7,8 @@ use lib.Dec.{T}
 use lib.IntN.{ℤ}
 use lib.Signed.{ltZ}
 use Rattle.tables.specs.Tables.{Row, _when_, first}
-use Rattle.tables.proofs.Tests.{neither-left, neither-right, fails-second, by-cases}
+use mir.Facts.{or-no}
+use Rattle.tables.proofs.Tests.{fails-second, by-cases}
 use Rattle.tables.proofs.Tables.{passed, Alike, first-alike}
 use Rattle.line.specs.Numbers.{outside}
 use Rattle.line.specs.Line.{line, valueAt, turned, Computable}
@@ -111,7 +112,7 @@ module _ (c : Clock) (u : Request) (now : ℤ) where
   -- what rule 12 lets pass begins in the range
   pub passed-in-range : Valid c → T (not (replaces u && (timeOutside (new .synthetic) || ltZ END (valueAt new now)))) → InRange (new .synthetic)
   passed-in-range v n = by-cases (replaces u)
-      (λ r. in-range (new .synthetic) (neither-left (timeOutside (new .synthetic)) (ltZ END (valueAt new now)) (fails-second (replaces u) (timeOutside (new .synthetic) || ltZ END (valueAt new now)) r n)))
+      (λ r. in-range (new .synthetic) (or-no (timeOutside (new .synthetic)) (ltZ END (valueAt new now)) (fails-second (replaces u) (timeOutside (new .synthetic) || ltZ END (valueAt new now)) r n) .0))
       (λ k. subst⁻¹ (λ (l : Line). InRange (l .synthetic)) (new-kept k) (old-drawable c v .synthetic))
 
 -- ---- rules 12 to 14
@@ -163,7 +164,7 @@ module _ (c : Clock) (u : Request) (now : ℤ) (v : Valid c) where
 
     row14 : T (not (replaces u && ltZ value (c .backstop))) → isLess (placed (valueAt found now)) (placed (valueAt (oldLine c) now)) ≡ ltZ value (valueAt (oldLine c) now)
     row14 m =
-        let high = not-less END value (neither-right (timeOutside (drawn .synthetic)) (ltZ END value) (fails-second (replaces u) (timeOutside (drawn .synthetic) || ltZ END value) r n)) in
+        let high = not-less END value (or-no (timeOutside (drawn .synthetic)) (ltZ END value) (fails-second (replaces u) (timeOutside (drawn .synthetic) || ltZ END value) r n) .1) in
         let low = not-less value (c .backstop) (fails-second (replaces u) (ltZ value (c .backstop)) r m) in
         rw (same begun) (less-law value (valueAt (oldLine c) now) (range-storable (record { low = ≤ℤ-trans (v .backstop .low) low; high = high })))
 

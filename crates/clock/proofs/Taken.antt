@@ -6,7 +6,8 @@ use native.Mathlib.Omega.{arith}
 use lib.IntN.{ℤ, pos, negℤ}
 use lib.Signed.{ltZ, leZ, _≤ℤ_}
 use lib.Dec.{T, eqb, leb, leb→le, eqb→eq}
-use Rattle.tables.proofs.Tests.{is-false, if-true, if-false, both, and-left, and-right, by-cases}
+use mir.Facts.{and-yes, yes-and}
+use Rattle.tables.proofs.Tests.{is-false, if-true, if-false, by-cases}
 use Rattle.tables.proofs.Tables.{test, passed, nothing-told}
 use Rattle.line.specs.Line.{line, valueAt, isZeros, bounded, reaches}
 use Rattle.line.specs.declared.Line.{Line}
@@ -50,11 +51,12 @@ drawable-line l t =
     let reference = not (timeOutside (l .reference)) in
     let synthetic = not (timeOutside (l .synthetic)) in
     let rate = not (rateOutside (l .rate)) in
-    let front = and-left (reference && synthetic) rate t in
+    let front = and-yes (reference && synthetic) rate t in
+    let both = and-yes reference synthetic (front .0) in
     record {
-      reference = in-range (l .reference) (and-left reference synthetic front);
-      synthetic = in-range (l .synthetic) (and-right reference synthetic front);
-      rate = permitted (l .rate) (and-right (reference && synthetic) rate t);
+      reference = in-range (l .reference) (both .0);
+      synthetic = in-range (l .synthetic) (both .1);
+      rate = permitted (l .rate) (front .1);
     }
 
 pub line-drawable : (l : Line) → Drawable l → T (drawable l)
@@ -62,8 +64,8 @@ unfolding drawable bounded timeOutside rateOutside
 line-drawable l d =
     let reference = not (timeOutside (l .reference)) in
     let synthetic = not (timeOutside (l .synthetic)) in
-    both (reference && synthetic) (not (rateOutside (l .rate)))
-    (both reference synthetic
+    yes-and (reference && synthetic) (not (rateOutside (l .rate)))
+    (yes-and reference synthetic
     (inside (pos 0) END (l .reference) (d .reference .low) (d .reference .high))
     (inside (pos 0) END (l .synthetic) (d .synthetic .low) (d .synthetic .high)))
     (inside (negℤ MAX_RATE) MAX_RATE (l .rate) (d .rate .low) (d .rate .high))
@@ -73,9 +75,10 @@ line-drawable l d =
 -- the parts of a test of four
 four : (a b c d : Bool) → T (a && b && c && d) → T a × T b × T c × T d
 four a b c d t =
-    let abc = and-left (a && b && c) d t in
-    let ab = and-left (a && b) c abc in
-    (and-left a b ab, and-right a b ab, and-right (a && b) c abc, and-right (a && b && c) d t)
+    let abcd = and-yes (a && b && c) d t in
+    let abc = and-yes (a && b) c (abcd .0) in
+    let ab = and-yes a b (abc .0) in
+    (ab .0, ab .1, abc .1, abcd .1)
 
 module _ (c : Clock) where
   abbrev accepts : Bool
@@ -88,8 +91,9 @@ module _ (c : Clock) where
     taken-parts : T (leb (c .started) 1) × T accepts × T kept
     unfolding isClock
     taken-parts =
-        let front = and-left (leb (c .started) 1 && accepts) kept t in
-        (and-left (leb (c .started) 1) accepts front, and-right (leb (c .started) 1) accepts front, and-right (leb (c .started) 1 && accepts) kept t)
+        let whole = and-yes (leb (c .started) 1 && accepts) kept t in
+        let front = and-yes (leb (c .started) 1) accepts (whole .0) in
+        (front .0, front .1, whole .1)
 
     pub taken-created : creationRefusal (c .word) (c .backstop) (c .latest) ≡ 0
     taken-created = eqb→eq (creationRefusal (c .word) (c .backstop) (c .latest)) 0 (taken-parts .1)
@@ -105,11 +109,11 @@ module _ (c : Clock) where
         (subst T (if-false (isRunning c) (mayRun c) (asCreated c) n) (taken-parts .2))
 
     taken-drawn : T (isRunning c) → Drawable (c .line)
-    taken-drawn s = drawable-line (c .line) (and-left (drawable (c .line)) (reaches (c .line) (c .latest) (c .backstop)) (taken-running s))
+    taken-drawn s = drawable-line (c .line) (and-yes (drawable (c .line)) (reaches (c .line) (c .latest) (c .backstop)) (taken-running s) .0)
 
     taken-shows : T (isRunning c) → c .backstop ≤ℤ valueAt (c .line) (c .latest)
     unfolding reaches
-    taken-shows s = record { le = and-right (drawable (c .line)) (reaches (c .line) (c .latest) (c .backstop)) (taken-running s) }
+    taken-shows s = record { le = and-yes (drawable (c .line)) (reaches (c .line) (c .latest) (c .backstop)) (taken-running s) .1 }
 
     taken-identity : T (not (isRunning c)) → c .line ≡ identity
     taken-identity n = zeros-are (c .line) (taken-resting n .1)
@@ -150,9 +154,9 @@ module _ (c : Clock) where
       T (reaches (c .line) (c .latest) (c .backstop)) → T (isClock c)
   unfolding isClock mayRun
   running-taken s e d v =
-      both (leb (c .started) 1 && accepts c) (kept c)
-      (both (leb (c .started) 1) (accepts c) (one-is-byte (c .started) s) (subst⁻¹ (λ (n : ℕ). T (eqb n 0)) e tt))
-      (subst⁻¹ T (if-true (isRunning c) (mayRun c) (asCreated c) s) (both (drawable (c .line)) (reaches (c .line) (c .latest) (c .backstop)) d v))
+      yes-and (leb (c .started) 1 && accepts c) (kept c)
+      (yes-and (leb (c .started) 1) (accepts c) (one-is-byte (c .started) s) (subst⁻¹ (λ (n : ℕ). T (eqb n 0)) e tt))
+      (subst⁻¹ T (if-true (isRunning c) (mayRun c) (asCreated c) s) (yes-and (drawable (c .line)) (reaches (c .line) (c .latest) (c .backstop)) d v))
 
   pub clearly-taken : T (clearlyRuns c) → T (isClock c)
   unfolding clearlyRuns
@@ -160,9 +164,9 @@ module _ (c : Clock) where
       let begun = leZ (c .line .reference) (c .latest) in
       let enough = leZ (c .backstop) (c .line .synthetic) in
       let front = isRunning c && accepts c && drawable (c .line) && begun in
-      let parts = four (isRunning c) (accepts c) (drawable (c .line)) begun (and-left front enough t) in
+      let parts = four (isRunning c) (accepts c) (drawable (c .line)) begun (and-yes front enough t .0) in
       running-taken (parts .0) (eqb→eq (creationRefusal (c .word) (c .backstop) (c .latest)) 0 (parts .1)) (parts .2)
-      (reaches-early (c .line) (c .latest) (c .backstop) (rises (drawable-line (c .line) (parts .2) .rate)) (parts .3) (and-right front enough t))
+      (reaches-early (c .line) (c .latest) (c .backstop) (rises (drawable-line (c .line) (parts .2) .rate)) (parts .3) (and-yes front enough t .1))
 
 -- ---- creation
 
@@ -183,8 +187,8 @@ pub created-taken : (word : ℕ) (backstop now : ℤ) → creationRefusal word b
 unfolding isClock created mayRun asCreated drawable bounded reaches isZeros timeOutside rateOutside outside
 created-taken word backstop now e =
     let accepted = eqb (creationRefusal word backstop now) 0 in
-    both (leb (byteOf auto) 1 && accepted) _
-    (both (leb (byteOf auto) 1) accepted (byte-low auto) (subst⁻¹ (λ (n : ℕ). T (eqb n 0)) e tt))
+    yes-and (leb (byteOf auto) 1 && accepted) _
+    (yes-and (leb (byteOf auto) 1) accepted (byte-low auto) (subst⁻¹ (λ (n : ℕ). T (eqb n 0)) e tt))
     (go auto (created-row17 word backstop now e))
   where
     auto : Bool

@@ -4,7 +4,8 @@ use mathlib.Core.Bool.{Bool, true, false, not, cond, _&&_}
 use lib.IntN.{ℤ}
 use lib.Signed.{_≤ℤ_, ≤ℤ-refl}
 use lib.Dec.{T}
-use Rattle.tables.proofs.Tests.{fails-second, both}
+use mir.Facts.{yes-and}
+use Rattle.tables.proofs.Tests.{fails-second}
 use Rattle.line.specs.Line.{valueAt}
 use Rattle.line.specs.declared.Line.{Line}
 use Rattle.line.proofs.Laws.{turned-value}
@@ -31,7 +32,7 @@ module _ (c : Clock) (u : Request) (now : ℤ) (t : T (accepted c (update u now)
     where
       replaced : T (replaces u) → valueAt (oldLine c) now ≤ℤ valueAt (newLine c u now) now
       replaced r =
-          let running = both (monotonic (c .word)) (isRunning c) m s in
+          let running = yes-and (monotonic (c .word)) (isRunning c) m s in
           not-less _ (valueAt (oldLine c) now) (fails-second (monotonic (c .word) && isRunning c) _ running (fails-second (replaces u) _ r (passed-rows c u now t .row14)))
 
   -- a running continuous clock is at most turned, and that at now
@@ -44,4 +45,4 @@ module _ (c : Clock) (u : Request) (now : ℤ) (t : T (accepted c (update u now)
       go true n = absurd n
       go false n =
           effect-turned (hasSynthetic u) (hasRate u) (oldLine c) (u .synthetic) (u .rate) now
-          (fails-second (continuous (c .word) && isRunning c) (hasSynthetic u) (both (continuous (c .word)) (isRunning c) k s) (passed-rows c u now t .row10))
+          (fails-second (continuous (c .word) && isRunning c) (hasSynthetic u) (yes-and (continuous (c .word)) (isRunning c) k s) (passed-rows c u now t .row10))

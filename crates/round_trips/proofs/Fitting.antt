@@ -11,7 +11,8 @@ use lib.Signed.{_≤ℤ_}
 use Rattle.line.specs.Numbers.{outside}
 use Rattle.clock.specs.Update.{hasSynthetic, hasReference, hasRate, hasError, versionKnown, endOf, wordWrong, valuesOutside}
 use Rattle.clock.specs.declared.Request.{Request}
-use Rattle.tables.proofs.Tests.{twice, neither-left, neither-right, fails-second}
+use mir.Facts.{T-not-not, or-no}
+use Rattle.tables.proofs.Tests.{fails-second}
 use Rattle.clock.proofs.Ranges.{not-outside}
 use Rattle.clock.proofs.Requests.{rate-permitted}
 use Rattle.fields.specs.Bits.{row}
@@ -37,13 +38,13 @@ module _ (u : Request) (known : T (not (wordWrong u))) where
   version-two : u .word / 2 ^ 58 ≡ 2
   unfolding wordWrong
   version-two =
-      eqb→eq (u .word / 2 ^ 58) 2 (twice (versionKnown (u .word)) (neither-left (not (versionKnown (u .word))) (not (eqb (u .word % 2 ^ 54) 0)) known))
+      eqb→eq (u .word / 2 ^ 58) 2 (T-not-not (versionKnown (u .word)) (or-no (not (versionKnown (u .word))) (not (eqb (u .word % 2 ^ 54) 0)) known .0))
 
   low-zero : u .word % 2 ^ 54 ≡ 0
   unfolding wordWrong
   low-zero =
       eqb→eq (u .word % 2 ^ 54) 0
-      (twice (eqb (u .word % 2 ^ 54) 0) (neither-right (not (versionKnown (u .word))) (not (eqb (u .word % 2 ^ 54) 0)) known))
+      (T-not-not (eqb (u .word % 2 ^ 54) 0) (or-no (not (versionKnown (u .word))) (not (eqb (u .word % 2 ^ 54) 0)) known .1))
 
   header-fits : headerOf (u .word) < 2 ^ headerWidth
   header-fits = omega (arith, version-two)
@@ -62,13 +63,13 @@ module _ (u : Request) (w : Writable u) where
   unfolding valuesOutside
   synthetic-inside =
       inside (u .word) (hasSynthetic u) (u .synthetic)
-      (neither-left (hasSynthetic u && outside (pos 0) (endOf (u .word)) (u .synthetic)) (hasReference u && outside (pos 0) (endOf (u .word)) (u .reference)) (w .values))
+      (or-no (hasSynthetic u && outside (pos 0) (endOf (u .word)) (u .synthetic)) (hasReference u && outside (pos 0) (endOf (u .word)) (u .reference)) (w .values) .0)
 
   pub reference-inside : T (hasReference u) → (pos 0 ≤ℤ u .reference) × (u .reference ≤ℤ endOf (u .word))
   unfolding valuesOutside
   reference-inside =
       inside (u .word) (hasReference u) (u .reference)
-      (neither-right (hasSynthetic u && outside (pos 0) (endOf (u .word)) (u .synthetic)) (hasReference u && outside (pos 0) (endOf (u .word)) (u .reference)) (w .values))
+      (or-no (hasSynthetic u && outside (pos 0) (endOf (u .word)) (u .synthetic)) (hasReference u && outside (pos 0) (endOf (u .word)) (u .reference)) (w .values) .1)
 
   pub rate-fits : T (hasRate u) → rateField (u .rate) ≤ rateFieldEnd
   rate-fits t = rate-high (u .rate) (rate-permitted u (w .rate) t)

@@ -11,7 +11,8 @@ use lib.Signed.{_≤ℤ_}
 use borrow.Author.Tests.{le-ltb}
 use Rattle.tables.specs.Tables.{first}
 use Rattle.tables.proofs.Tables.{nothing-told, answered}
-use Rattle.tables.proofs.Tests.{if-true, if-false, not-less, is-zero}
+use mir.Facts.{no-ltb}
+use Rattle.tables.proofs.Tests.{if-true, if-false, is-zero}
 use Rattle.clock.specs.Clock.{Permitted}
 use Rattle.clock.specs.Update.{hasSynthetic, hasReference, hasRate, hasError, SameRequest}
 use Rattle.clock.specs.declared.Request.{Request}
@@ -123,12 +124,12 @@ module _ (u : Request) (w : Writable u) (s : Sized u) (rest : List ℕ) where
   unfolding frontTable headerTable fieldsTable
   front-passed =
       nothing-told (frontTable bytes) (
-        not-less (length bytes) headerLength (omega (arith, length-there, length-low u)),
+        no-ltb {a = length bytes} {b = headerLength} (omega (arith, length-there, length-low u)),
         (
           subst (λ (b : Bool). T (not b)) (sym (wrong-alike (headed bytes) u word-there)) (w .word),
           (
-            not-less (length bytes) (slipLength (headed bytes)) (omega (arith, length-there, length-alike (headed bytes) u word-there)),
-            (not-less rateFieldEnd (rateIn (valuesIn bytes)) rate-there, (is-zero (paddingIn (valuesIn bytes)) padding-there, tt)),
+            no-ltb {a = length bytes} {b = slipLength (headed bytes)} (omega (arith, length-there, length-alike (headed bytes) u word-there)),
+            (no-ltb {a = rateFieldEnd} {b = rateIn (valuesIn bytes)} rate-there, (is-zero (paddingIn (valuesIn bytes)) padding-there, tt)),
           ),
         ),
       )

@@ -11,7 +11,8 @@ use lib.ListN.{length, take, getD}
 use lib.Pow.{pow-mono}
 use Rattle.tables.specs.Tables.{first}
 use Rattle.tables.proofs.Tables.{passed, none-applies}
-use Rattle.tables.proofs.Tests.{twice, neither}
+use mir.Facts.{T-not-not}
+use Rattle.tables.proofs.Tests.{neither}
 use Rattle.line.specs.Numbers.{outside}
 use Rattle.clock.specs.Numbers.{MAX_RATE, rateOutside}
 use Rattle.clock.specs.Clock.{Permitted}
@@ -74,7 +75,7 @@ module _ (bytes : List ℕ) (z : first (frontTable bytes) ≡ 0) where
 
   padding-zero : paddingIn (valuesIn bytes) ≡ 0
   unfolding frontTable headerTable fieldsTable
-  padding-zero = eqb→eq (paddingIn (valuesIn bytes)) 0 (twice (eqb (paddingIn (valuesIn bytes)) 0) (passed 19 (frontTable bytes) tt z))
+  padding-zero = eqb→eq (paddingIn (valuesIn bytes)) 0 (T-not-not (eqb (paddingIn (valuesIn bytes)) 0) (passed 19 (frontTable bytes) tt z))
 
   pub writable : Writable (requestIn bytes)
   unfolding valuesIn layout widths fields valuesOutside rateTooWide rateOutside

@@ -8,7 +8,7 @@ use lib.ListN.{length, take, drop}
 use lib.Seq.{take-at, take-all}
 use Rattle.tables.specs.Tables.{Row, NoneApplies, first, answerTo, answer}
 use Rattle.tables.proofs.Tables.{none-applies, nothing-told, none-front, none-rest, answered}
-use Rattle.tables.proofs.Tests.{not-less}
+use mir.Facts.{no-ltb}
 use Rattle.clock.specs.Numbers.{bit}
 use Rattle.clock.specs.Update.{SameRequest}
 use Rattle.clock.specs.declared.Request.{Request}
@@ -105,7 +105,7 @@ read-length bytes accepted = measured (headed bytes) (length bytes) (read-size b
 -- the writer takes what has room
 takes : (u : Request) (size : ℕ) → Writable u → slipLength u ≤ size → first (writingTable u size) ≡ 0
 unfolding writingTable
-takes u size w h = nothing-told (writingTable u size) (w .word, (w .values, (w .rate, (not-less size (slipLength u) h, tt))))
+takes u size w h = nothing-told (writingTable u size) (w .word, (w .values, (w .rate, (no-ltb {a = size} {b = slipLength u} h, tt))))
 
 pub rewritten : Rewritten
 rewritten bytes buffer hb accepted h =

@@ -8,7 +8,7 @@ use native.Mathlib.Omega.{arith}
 use lib.Dec.{T, ltb, eqb, ltb→lt}
 use borrow.Author.Tests.{ne-eqb}
 use Rattle.tables.specs.Tables.{Row, _when_, first, answerTo, answer, NoneApplies, FirstApplies, Settled, nextOf}
-use Rattle.tables.proofs.Tests.{and-left, and-right}
+use mir.Facts.{and-yes}
 
 -- the test of the row with this number
 abbrev pub test : ℕ → List Row → Bool
@@ -25,14 +25,14 @@ clash n h e = omega arith
 
 -- a row that applies is told
 told : (n : ℕ) (rows : List Row) → T (numbered ((n when true) ∷ rows)) → n ≡ 0 → ⊥
-told n rows p = clash n (ltb→lt 0 n (and-left (ltb 0 n) (numbered rows) p))
+told n rows p = clash n (ltb→lt 0 n (and-yes (ltb 0 n) (numbered rows) p .0))
 
 -- ---- where nothing is refused no row applies
 
 pub none-applies : (rows : List Row) → T (numbered rows) → first rows ≡ 0 → NoneApplies rows
 none-applies [] p e = tt
 none-applies ((n when true) ∷ rows) p e = absurd (told n rows p e)
-none-applies ((n when false) ∷ rows) p e = (tt, none-applies rows (and-right (ltb 0 n) (numbered rows) p) e)
+none-applies ((n when false) ∷ rows) p e = (tt, none-applies rows (and-yes (ltb 0 n) (numbered rows) p .1) e)
 
 pub nothing-told : (rows : List Row) → NoneApplies rows → first rows ≡ 0
 nothing-told [] a = refl
@@ -59,8 +59,8 @@ lacks k ((n when b) ∷ rows) = not (eqb n k) && lacks k rows
 
 pub never-told : (k : ℕ) (rows : List Row) → T (lacks k rows) → T (not (eqb (first rows) k))
 never-told k [] p = p
-never-told k ((n when true) ∷ rows) p = and-left (not (eqb n k)) (lacks k rows) p
-never-told k ((n when false) ∷ rows) p = never-told k rows (and-right (not (eqb n k)) (lacks k rows) p)
+never-told k ((n when true) ∷ rows) p = and-yes (not (eqb n k)) (lacks k rows) p .0
+never-told k ((n when false) ∷ rows) p = never-told k rows (and-yes (not (eqb n k)) (lacks k rows) p .1)
 
 -- ---- two tables, one after the other
 
@@ -68,7 +68,7 @@ never-told k ((n when false) ∷ rows) p = never-told k rows (and-right (not (eq
 pub first-passed : (front rows : List Row) → T (numbered front) → first front ≡ 0 → first (front ++ rows) ≡ first rows
 first-passed [] rows p e = refl
 first-passed ((n when true) ∷ front) rows p e = absurd (told n front p e)
-first-passed ((n when false) ∷ front) rows p e = first-passed front rows (and-right (ltb 0 n) (numbered front) p) e
+first-passed ((n when false) ∷ front) rows p e = first-passed front rows (and-yes (ltb 0 n) (numbered front) p .1) e
 
 -- a refusal of the first table stands
 pub first-refused : (front rows : List Row) → (first front ≡ 0 → ⊥) → first (front ++ rows) ≡ first front
@@ -124,7 +124,7 @@ pub walk-first : (rows : List Row) → T (numbered rows) → walk 0 rows ≡ fir
 unfolding nextOf
 walk-first [] p = refl
 walk-first ((n when true) ∷ rows) p = stays n rows (told n rows p)
-walk-first ((n when false) ∷ rows) p = walk-first rows (and-right (ltb 0 n) (numbered rows) p)
+walk-first ((n when false) ∷ rows) p = walk-first rows (and-yes (ltb 0 n) (numbered rows) p .1)
 
 -- ---- the answer that a table gives
 
@@ -155,4 +155,4 @@ module _ {A : Type 0} (rows : List Row) (taken : A) (refused : ℕ → A) where
       found : (rows : List Row) → T (numbered rows) → (NoneApplies rows × (first rows ≡ 0)) ⊎ (FirstApplies rows (first rows) × (first rows ≡ 0 → ⊥))
       found [] p = inl (tt, refl)
       found ((n when true) ∷ rows) p = inr (refl, told n rows p)
-      found ((n when false) ∷ rows) p = ⊎-elim (λ w. inl ((tt, w .0), w .1)) (λ w. inr w) (found rows (and-right (ltb 0 n) (numbered rows) p))
+      found ((n when false) ∷ rows) p = ⊎-elim (λ w. inl ((tt, w .0), w .1)) (λ w. inr w) (found rows (and-yes (ltb 0 n) (numbered rows) p .1))

@@ -1,9 +1,9 @@
--- Tests in Bool: what is known where one holds or fails.
+-- Tests in Bool: what is known where one holds or fails, beyond the kit's mir.Facts.
 use mathlib.Core.Path.{_≡_, refl, sym, subst}
 use mathlib.Core.Bool.{Bool, true, false, not, cond, _&&_, _||_}
-use Prim.Native.Nat.{ℕ, _≤_}
-use borrow.Author.Tests.{le-ltb, eq-eqb}
-use lib.Dec.{T, eqb, ltb}
+use Prim.Native.Nat.{ℕ}
+use borrow.Author.Tests.{eq-eqb}
+use lib.Dec.{T, eqb}
 
 pub is-true : (b : Bool) → T b → b ≡ true
 is-true true t = refl
@@ -12,10 +12,6 @@ is-true false t = absurd t
 pub is-false : (b : Bool) → T (not b) → b ≡ false
 is-false true n = absurd n
 is-false false n = refl
-
-pub twice : (b : Bool) → T (not (not b)) → T b
-twice true t = tt
-twice false t = t
 
 pub if-true : {A : Type 0} (b : Bool) (x y : A) → T b → cond b x y ≡ x
 if-true true x y t = refl
@@ -31,30 +27,10 @@ by-cases false f g = g tt
 
 -- ---- two tests
 
-pub both : (a b : Bool) → T a → T b → T (a && b)
-both true b t s = s
-both false b t s = t
-
-pub and-left : (a b : Bool) → T (a && b) → T a
-and-left true b t = tt
-and-left false b t = t
-
-pub and-right : (a b : Bool) → T (a && b) → T b
-and-right true b t = t
-and-right false b t = absurd t
-
 -- a refusal's test that failed though its first part holds
 pub fails-second : (a b : Bool) → T a → T (not (a && b)) → T (not b)
 fails-second true b t n = n
 fails-second false b t n = absurd t
-
-pub neither-left : (a b : Bool) → T (not (a || b)) → T (not a)
-neither-left true b n = n
-neither-left false b n = tt
-
-pub neither-right : (a b : Bool) → T (not (a || b)) → T (not b)
-neither-right true b n = absurd n
-neither-right false b n = n
 
 pub neither : (a b : Bool) → T (not a) → T (not b) → T (not (a || b))
 neither true b n m = n
@@ -66,9 +42,6 @@ other false true t n = absurd n
 other false false t n = t
 
 -- ---- a row's test that fails
-
-pub not-less : (a b : ℕ) → b ≤ a → T (not (ltb a b))
-not-less a b h = subst (λ (t : Bool). T (not t)) (sym (le-ltb a b h)) tt
 
 pub is-zero : (n : ℕ) → n ≡ 0 → T (not (not (eqb n 0)))
 is-zero n e = subst (λ (t : Bool). T (not (not t))) (sym (eq-eqb n 0 e)) tt

@@ -7,7 +7,8 @@ use mir.Val.{toZ, ofZ}
 use borrow.Author.Tests.{ne-eqb}
 use Rattle.clock.specs.Creation.{creationRefusal}
 use Rattle.clock.specs.declared.Clock.{Clock}
-use Rattle.tables.proofs.Tests.{if-true, and-right}
+use mir.Facts.{and-yes}
+use Rattle.tables.proofs.Tests.{if-true}
 use Rattle.clock.proofs.Ranges.{in-range}
 use Rattle.clock.proofs.Creations.{created-row1, created-row16}
 use Rattle.clock.specs.Taken.{mayRun, asCreated, isClock}
@@ -44,7 +45,7 @@ may-run-requires : tie.Need-may-run-requires
 may-run-requires c κs =
     let if1 = c .before in
     let r = if1 .before .before .before .before .args .self in
-    let accepted = eqb→eq (refusalOf r) 0 (and-right (leb (r .started) 1) (eqb (refusalOf r) 0) (subst⁻¹ T (first-passed if1) tt)) in (
+    let accepted = eqb→eq (refusalOf r) 0 (and-yes (leb (r .started) 1) (eqb (refusalOf r) 0) (subst⁻¹ T (first-passed if1) tt) .1) in (
       in-range (r .latest) (created-row1 (r .word) (r .backstop) (r .latest) accepted),
       in-range (r .backstop) (created-row16 (r .word) (r .backstop) (r .latest) accepted),
     )
