@@ -12,7 +12,7 @@ use Rattle.line.specs.declared.Line.{Line}
 use Rattle.clock.specs.Numbers.{END, MAX_RATE, timeOutside, bit}
 use Rattle.clock.specs.declared.Clock.{Clock}
 
--- the three flags of a creation word, from its top bit down (01, 'Creation')
+-- the flags of a creation word: 128, 64 and 32 (01, 'Creation')
 abbrev pub monotonic : ℕ → Bool
 monotonic word = bit 7 word
 

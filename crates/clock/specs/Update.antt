@@ -18,7 +18,7 @@ use Rattle.clock.specs.declared.Request.{Request}
 use Rattle.clock.specs.declared.Flags.{Flags}
 use Rattle.clock.specs.declared.Updated.{Updated}
 
--- ---- the update word, from the top: its version, four flags, and 54 bits that are not in use
+-- ---- the update word, from the top: 6 bits of version, four flags, and 54 bits that are to be zero
 
 -- the one version there is
 abbrev pub versionKnown : ℕ → Bool
