@@ -145,7 +145,7 @@ struct cementoad_clock {
     int64_t latest;
     /* The error bound in nanoseconds, CEMENTOAD_UNKNOWN_ERROR where it is unknown. */
     uint64_t error;
-    /* 1 at creation, one more each time the line is replaced, from 2^32 - 1 to 0. */
+    /* 1 at creation, one more with each accepted update, from 2^32 - 1 on to 0. */
     uint32_t generation;
     /* The creation word. */
     uint8_t word;
@@ -193,7 +193,8 @@ struct cementoad_details {
     struct cementoad_line line;
     /* The error bound in nanoseconds, CEMENTOAD_UNKNOWN_ERROR where it is unknown. */
     uint64_t error;
-    /* 1 at creation, one more each time the line is replaced, from 2^32 - 1 to 0. */
+    /* One more with each accepted update, from 2^32 - 1 on to 0. Where two records of one clock, neither of them
+     * refused, have the same, and fewer than 2^32 updates were accepted between, none was. */
     uint32_t generation;
     /* The time of the latest accepted update, or of creation before any. */
     int64_t latest;

@@ -115,9 +115,9 @@ updateTable c u now = requestTable c u now ++ newLineTable c u now
 
 -- ---- the clock that an accepted update leaves
 
--- it counts the replacements of the line, in 32 bits
-unfoldable pub nextGeneration : Bool → ℕ → ℕ
-nextGeneration replaced generation = cond replaced ((generation + 1) % 2 ^ 32) generation
+-- one more with each accepted update, and 0 after 2^32 - 1 (02, R-2)
+unfoldable pub nextGeneration : ℕ → ℕ
+nextGeneration generation = (generation + 1) % 2 ^ 32
 
 -- word and backstop stay; once started, it stays so (01, 'The update word and its effect')
 unfoldable pub updated : Clock → Request → ℤ → Clock
@@ -126,7 +126,7 @@ updated c u now = record {
   backstop = c .backstop;
   latest = now;
   error = cond (hasError u) (u .error) (c .error);
-  generation = nextGeneration (replaces u) (c .generation);
+  generation = nextGeneration (c .generation);
   word = c .word;
   started = byteOf (isRunning c || hasSynthetic u);
 }

@@ -346,13 +346,9 @@ impl Clock {
         requires { ⌜ line ≡ newLine self request now ⌝ }
         ensures { λ r. ⌜ r ≡ updated self request now ⌝ }
     {
-        let Flags {
-            synthetic,
-            rate,
-            ..
-        } = request.flags();
+        let Flags { synthetic, .. } = request.flags();
         let error = request.error_or(self.error);
-        let generation = next_generation(synthetic | rate, self.generation);
+        let generation = next_generation(self.generation);
         let started = byte_of((self.started == 1) | synthetic);
         Clock {
             line,
@@ -459,17 +455,13 @@ fn has(word: u8, flag: u8) -> bool
 }
 
 // The generation after an accepted update.
-fn next_generation(replaced: bool, generation: u32) -> u32
-    ensures { λ r. ⌜ r ≡ nextGeneration replaced generation ⌝ }
+fn next_generation(generation: u32) -> u32
+    ensures { λ r. ⌜ r ≡ nextGeneration generation ⌝ }
 {
-    if replaced {
-        if generation == u32::MAX {
-            0
-        } else {
-            generation + 1
-        }
+    if generation == u32::MAX {
+        0
     } else {
-        generation
+        generation + 1
     }
 }
 

@@ -1,6 +1,7 @@
 // A clock's life on one line: each call writes what is asked and what the clock answers.
 use clock::Clock;
 use clock::Created;
+use clock::Detailed;
 use clock::Reading;
 use clock::Request;
 
@@ -44,6 +45,22 @@ pub fn read(life: Created, now: i64) {
         Created::Made(clock) => told(clock.read(now)),
         Created::Refused(_) => print::write(b" no clock"),
     }
+}
+
+// The generation as the details tell it.
+pub fn generation(life: Created, now: i64) {
+    print::write(b"; ");
+    time(now);
+    match life {
+        Created::Made(clock) => counted(clock.details(now)),
+        Created::Refused(_) => print::write(b" no clock"),
+    }
+}
+
+fn counted(detailed: Detailed) {
+    let details = detailed.details;
+    print::write(b" generation ");
+    print::number(details.generation as u64);
 }
 
 fn told(reading: Reading) {

@@ -1,8 +1,10 @@
-// The worked cases of 01 that speak of clocks, a line for each life of a clock. Case 12 speaks of slips.
+// The worked cases of 01 that speak of clocks, and what was worked out by hand for a request of 02: a line for each
+// life of a clock. Case 12 speaks of slips.
 mod life;
 mod requests;
 
 use crate::life::create;
+use crate::life::generation;
 use crate::life::read;
 use crate::life::update;
 use clock::Clock;
@@ -30,6 +32,7 @@ fn main() {
     case_11();
     case_13();
     case_14();
+    request_2();
 }
 
 // Case 1's clock, on which cases 2 and 7 go on.
@@ -197,9 +200,26 @@ fn case_14() {
     print::end();
 }
 
-// A line's head, as 'case 1: '.
+// An error bound alone is refused before the start, and counts after it.
+fn request_2() {
+    head(b"R-", 2);
+    let c = create(PLAIN, 0, 0);
+    let c = update(c, requests::error(50), 50);
+    generation(c, 50);
+    let c = update(c, requests::set(1500), 100);
+    generation(c, 100);
+    let c = update(c, requests::error(50), 200);
+    generation(c, 200);
+    print::end();
+}
+
 fn case(n: u64) {
-    print::write(b"case ");
+    head(b"case ", n);
+}
+
+// A line's head, as 'case 1: '.
+fn head(name: &[u8], n: u64) {
+    print::write(name);
     print::number(n);
     print::write(b": ");
 }

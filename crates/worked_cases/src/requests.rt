@@ -22,6 +22,10 @@ pub fn rate_at(rate: i32, reference: i64) -> Request {
     request(Request::REFERENCE | Request::RATE, 0, reference, rate, 0)
 }
 
+pub fn error(error: u64) -> Request {
+    request(Request::ERROR, 0, 0, 0, error)
+}
+
 pub fn error_at(error: u64, reference: i64) -> Request {
     request(Request::REFERENCE | Request::ERROR, 0, reference, 0, error)
 }

@@ -204,7 +204,7 @@ fn new_line(clock: &Clock, asked: &Asked, now: i128) -> Option<Line> {
     Some(Line { reference: point, synthetic, rate })
 }
 
-/// What 01 tells below that table.
+/// What 01 tells below that table, with every accepted update counted (02, R-2).
 fn effect(clock: &Clock, asked: &Asked, now: i128, new: Option<Line>) -> Clock {
     Clock {
         word: clock.word,
@@ -212,7 +212,7 @@ fn effect(clock: &Clock, asked: &Asked, now: i128, new: Option<Line>) -> Clock {
         started: clock.started || asked.synthetic.is_some(),
         line: new.unwrap_or(clock.line),
         error: asked.error.unwrap_or(clock.error),
-        generation: if new.is_some() { (clock.generation + 1) % GENERATIONS } else { clock.generation },
+        generation: (clock.generation + 1) % GENERATIONS,
         latest: now,
     }
 }

@@ -88,7 +88,7 @@ pub struct Clock {
     pub latest: i64,
     /// The error bound in nanoseconds, [`UNKNOWN_ERROR`] where it is unknown.
     pub error: u64,
-    /// 1 at creation, one more each time the line is replaced, from 2^32 - 1 to 0.
+    /// 1 at creation, one more with each accepted update, from 2^32 - 1 on to 0.
     pub generation: u32,
     /// The creation word.
     pub word: u8,
@@ -152,7 +152,8 @@ pub struct Details {
     pub line: Line,
     /// The error bound in nanoseconds, [`UNKNOWN_ERROR`] where it is unknown.
     pub error: u64,
-    /// 1 at creation, one more each time the line is replaced, from 2^32 - 1 to 0.
+    /// One more with each accepted update, from 2^32 - 1 on to 0. Where two records of one clock, neither of them
+    /// refused, have the same, and fewer than 2^32 updates were accepted between, none was.
     pub generation: u32,
     /// The time of the latest accepted update, or of creation.
     pub latest: i64,

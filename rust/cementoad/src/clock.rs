@@ -114,6 +114,9 @@ impl Clock {
     /// assert_eq!((details.line.reference, details.line.synthetic), (100, 1500));
     /// assert_eq!((details.generation, details.latest, details.now), (2, 100, 350));
     /// assert_eq!(details.error_bound(), Some(40));
+    ///
+    /// clock.update(&Request::new().error(50), 400)?; // each accepted update raises the generation
+    /// assert_eq!(clock.details(400)?.generation, 3);
     /// # Ok::<(), cementoad::Refusal>(())
     /// ```
     pub fn details(&self, now: i64) -> Result<Details, Refusal> {

@@ -1,4 +1,4 @@
-//! The customer's demands 2 and 3, held against one clock's answers.
+//! The customer's demands 2 and 3 and the count that the generation keeps, held against one clock's answers.
 
 use cementoad_sys::{CONTINUOUS, Clock, MONOTONIC, Request};
 use second::{Ideal, ideal_after, ideal_at_creation};
@@ -10,6 +10,8 @@ pub struct Witness {
     word: u8,
     backstop: i64,
     ideal: Option<Ideal>,
+    /// How many updates were accepted.
+    accepted: u32,
     /// The time of the latest accepted update or reading, and the latest reading since those times last fell.
     time: i64,
     reading: Option<i64>,
@@ -18,7 +20,7 @@ pub struct Witness {
 impl Witness {
     /// A new clock.
     pub fn created(word: u8, backstop: i64, now: i64) -> Self {
-        Witness { word, backstop, ideal: ideal_at_creation(word), time: now, reading: None }
+        Witness { word, backstop, ideal: ideal_at_creation(word), accepted: 0, time: now, reading: None }
     }
 
     /// A reading that is not refused.
@@ -39,9 +41,10 @@ impl Witness {
         }
     }
 
-    /// Any update, for the ideal line: its arguments and whether it was accepted.
+    /// Any update: its arguments, for the ideal line, and whether it was accepted.
     pub fn hears(&mut self, request: &Request, now: i64, accepted: bool) {
         self.ideal = ideal_after(self.ideal, &wide_request(request), now, accepted);
+        self.accepted += u32::from(accepted);
     }
 
     /// An update that is not refused, with the clock before and after it.
@@ -54,10 +57,14 @@ impl Witness {
         Ok(())
     }
 
-    /// There is an ideal line exactly when the clock is started, so that demand 3 is never passed over.
+    /// There is an ideal line exactly when the clock is started, so that demand 3 is never passed over. The generation
+    /// is 1 and the number of accepted updates together (02, R-2).
     pub fn runs_beside(&self, clock: &Clock) -> Result<(), String> {
         if self.ideal.is_some() != (clock.started == 1) {
             return Err(format!("demand 3: the ideal line is {:?} beside {clock:?}", self.ideal));
+        }
+        if clock.generation != 1 + self.accepted {
+            return Err(format!("R-2: {} updates were accepted, beside {clock:?}", self.accepted));
         }
         Ok(())
     }

@@ -1,6 +1,6 @@
-//! Lists written from 01: the worked cases, each refusal just inside and just outside, the orders of checks that can be
-//! seen, effects that are easily got wrong, and slips. Each call that is refused has its number beside it, and some
-//! that are accepted are told by their whole answer.
+//! Lists written from 01 and 02: the worked cases, each refusal just inside and just outside, the orders of checks that
+//! can be seen, effects that are easily got wrong, and slips. Each call that is refused has its number beside it, and
+//! some that are accepted are told by their whole answer.
 
 use cementoad_sys::*;
 
@@ -53,7 +53,8 @@ fn is_started(started: bool) -> Step {
     answers(Started, Answer::Started(started))
 }
 
-/// The details of a clock of this word and backstop, with this line and latest time.
+/// The details of a clock of this word and backstop, with this line and latest time. At generation 1 no update
+/// has started it.
 fn tells(kind: (u8, i64), now: i64, line: (i64, i64, i32), error: u64, generation: u32, latest: i64) -> Step {
     let (word, backstop) = kind;
     let line = Line { reference: line.0, synthetic: line.1, rate: line.2 };
@@ -100,6 +101,11 @@ fn at(reference: i64, request: Request) -> Request {
 /// The request with a rate as well.
 fn with(rate: i32, request: Request) -> Request {
     Request { rate, word: request.word | RATE, ..request }
+}
+
+/// The request with an error bound as well.
+fn within(error: u64, request: Request) -> Request {
+    Request { error, word: request.word | ERROR, ..request }
 }
 
 /// The request with its unflagged arguments outside their ranges.
@@ -256,14 +262,19 @@ fn effects() -> Lists {
             tells((PLAIN, 0), 21, (20, 6, 7), unknown, 3, 20), Update(with(8, set(6)), 20),
             tells((PLAIN, 0), 20, (20, 6, 8), unknown, 4, 20);
         "an equal line raises the generation": Create(PLAIN, 0, 0), Update(set(0), 0), Update(set(0), 0),
-            tells((PLAIN, 0), 0, (0, 0, 0), unknown, 3, 0), Update(junk(error(5)), 9),
-            tells((PLAIN, 0), 9, (0, 0, 0), 5, 3, 9), Update(junk(rate(1)), 9),
-            tells((PLAIN, 0), 9, (9, 9, 1), 5, 4, 9);
+            tells((PLAIN, 0), 0, (0, 0, 0), unknown, 3, 0), Update(junk(rate(0)), 0),
+            tells((PLAIN, 0), 0, (0, 0, 0), unknown, 4, 0);
+        "the error bound alone raises the generation": Create(PLAIN, 0, 0), Update(error(5), 0) => 8,
+            tells((PLAIN, 0), 0, (0, 0, 0), unknown, 1, 0), Update(set(0), 0), Update(junk(error(5)), 9),
+            tells((PLAIN, 0), 9, (0, 0, 0), 5, 3, 9), Update(error(5), 9), tells((PLAIN, 0), 9, (0, 0, 0), 5, 4, 9),
+            Update(junk(rate(1)), 9), tells((PLAIN, 0), 9, (9, 9, 1), 5, 5, 9);
+        "a line and an error bound raise it once": Create(PLAIN, 0, 0), Update(within(5, with(7, set(1))), 3),
+            tells((PLAIN, 0), 3, (3, 1, 7), 5, 2, 3);
         "the generation begins again at 0": Take(aged), Update(error(1), 0),
-            tells((PLAIN, 0), 0, (0, 0, 0), 1, u32::MAX, 0), Update(rate(0), 0),
-            tells((PLAIN, 0), 0, (0, 0, 0), 1, 0, 0);
+            tells((PLAIN, 0), 0, (0, 0, 0), 1, 0, 0), Take(aged), Update(rate(0), 0),
+            tells((PLAIN, 0), 0, (0, 0, 0), 0, 0, 0);
         "a refused update leaves no trace": Create(PLAIN, 0, 0), Update(set(5), 0), Update(at(5, error(9)), 100) => 7,
-            Update(error(1), 50), tells((PLAIN, 0), 60, (0, 5, 0), 1, 2, 50);
+            Update(error(1), 50), tells((PLAIN, 0), 60, (0, 5, 0), 1, 3, 50);
         "a rate at another time keeps the value there": Create(PLAIN, 0, 0), Update(set(100), 10),
             Update(at(1000, rate(500)), 20), tells((PLAIN, 0), 20, (1000, 1090, 500), unknown, 3, 20),
             reads(1000, 1090);

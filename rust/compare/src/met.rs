@@ -183,7 +183,9 @@ impl Met {
         self.row("synthetic and rate at a reference", taken && flags == SYNTHETIC | RATE | REFERENCE);
         self.row("neither", taken && flags == 0);
         self.row("a start", taken && clock.started == 0);
-        self.row("a generation of 0", taken && new.is_some() && clock.generation == u32::MAX);
+        let last = taken && clock.generation == u32::MAX;
+        self.row("a generation of 0", last && new.is_some());
+        self.row("a generation of 0, by the error bound alone", last && new.is_none());
     }
 
     /// A slip with a header of version 2: its bytes beside its length, its rate field beside the widest.

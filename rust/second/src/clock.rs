@@ -218,7 +218,8 @@ fn update_refusal(clock: &Clock, request: &Request, now: i128) -> u8 {
     ])
 }
 
-/// Updates the clock: the new one, or the old one beside the refusal.
+/// Updates the clock: the new one, or the old one beside the refusal. Each that is accepted raises the generation by
+/// one (02, R-2).
 pub fn update(clock: &Clock, request: &Request, now: i64) -> (u8, Clock) {
     let now = i128::from(now);
     let refusal = update_refusal(clock, request, now);
@@ -228,11 +229,11 @@ pub fn update(clock: &Clock, request: &Request, now: i64) -> (u8, Clock) {
     let mut after = *clock;
     if let Some(line) = new_line(clock, request, now) {
         after.line = Some(line);
-        after.generation = (clock.generation + 1) % (1 << 32);
     }
     if request.has(ERROR) {
         after.error = i128::from(request.error);
     }
+    after.generation = (clock.generation + 1) % (1 << 32);
     after.latest = now;
     (0, after)
 }
