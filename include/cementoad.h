@@ -246,8 +246,8 @@ struct cementoad_detailed cementoad_get_details(struct cementoad_clock clock, in
 CEMENTOAD_ANSWERS
 bool cementoad_is_started(struct cementoad_clock clock);
 
-/* ---- slips. A pointer leads to as many bytes as the next argument says, and is never NULL, not even for 0 bytes. Nobody
- * else writes there during the call. */
+/* ---- slips. A pointer leads to as many bytes as the next argument says, and is never NULL, not even for 0 bytes.
+ * Nobody else writes there during the call. */
 
 /* The request of a slip that is all of the bytes, or refusal 3, 6, 18, 19 or 20. */
 CEMENTOAD_ANSWERS

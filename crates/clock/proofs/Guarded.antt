@@ -6,7 +6,7 @@ use mathlib.Core.Logic.{inl, inr}
 use Prim.Native.Nat.{ℕ}
 use lib.Dec.{T, eqb}
 use Rattle.tables.specs.Tables.{Row, _when_, first, Settled}
-use Rattle.tables.proofs.Tests.{is-true, is-false}
+use Rattle.tables.proofs.Tests.{is-false}
 use Rattle.tables.proofs.Tables.{numbered, lacks, never-told, first-passed, first-refused}
 use Rattle.clock.specs.Taken.{isClock, NOT_A_CLOCK, guarded}
 use Rattle.clock.specs.declared.Clock.{Clock}
@@ -30,11 +30,6 @@ guarded-apart c rows p = go (isClock c)
     go : (b : Bool) → eqb (first (NOT_A_CLOCK when not b ∷ rows)) NOT_A_CLOCK ≡ not b
     go true = is-false (eqb (first rows) NOT_A_CLOCK) (never-told NOT_A_CLOCK rows p)
     go false = refl
-
--- a clock that its own table lets pass
-pub passed-guarded : (c : Clock) (rows : List Row) → T (isClock c) → first rows ≡ 0 → first (guarded c rows) ≡ 0
-unfolding guarded
-passed-guarded c rows t e = rw (is-true (isClock c) t) e
 
 -- what the whole table lets pass is a clock, and its own table lets it pass
 pub guarded-passed : (c : Clock) (rows : List Row) → first (guarded c rows) ≡ 0 → T (isClock c) × (first rows ≡ 0)

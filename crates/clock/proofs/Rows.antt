@@ -35,10 +35,14 @@ refusal-is c (ask (read now)) =
 refusal-is c (ask (details now)) =
     by-answer (guarded c (detailsTable c now)) _ _ (λ (r : Detailed). r .refusal ≡ first (guarded c (detailsTable c now))) sym (λ n e h. sym e)
 
--- what is accepted is a call on a clock, and its table lets it pass
-pub call-passed : (c : Clock) (k : Call) → T (accepted c k) → T (isClock c) × (first (callTable c k) ≡ 0)
+-- what is accepted is refused by no row
+pub call-unrefused : (c : Clock) (k : Call) → T (accepted c k) → first (guarded c (callTable c k)) ≡ 0
 unfolding accepted
-call-passed c k t = guarded-passed c (callTable c k) (sym (refusal-is c k) ∙ eqb→eq (refusalOf c k) 0 t)
+call-unrefused c k t = sym (refusal-is c k) ∙ eqb→eq (refusalOf c k) 0 t
+
+-- it is a call on a clock, and its table lets it pass
+pub call-passed : (c : Clock) (k : Call) → T (accepted c k) → T (isClock c) × (first (callTable c k) ≡ 0)
+call-passed c k t = guarded-passed c (callTable c k) (call-unrefused c k t)
 
 -- no table of the paper's has the number of our own
 pub call-lacks : (c : Clock) (k : Call) → T (lacks NOT_A_CLOCK (callTable c k))

@@ -3,21 +3,16 @@ use mathlib.Core.Path.{_≡_, refl, sym, ap, _∙_, subst}
 use mathlib.Core.List.{List, [], _∷_}
 use Prim.Native.Nat.{ℕ, _+_, _%_, _^_, _<_}
 use native.Mathlib.Omega.{arith}
-use lib.IntN.{ℤ}
-use lib.Dec.{T}
-use Rattle.tables.proofs.Tables.{answered}
-use Rattle.clock.specs.Taken.{guarded}
 use Rattle.clock.specs.Creation.{FIRST_GENERATION, created}
 use Rattle.clock.specs.Update.{nextGeneration, updated}
-use Rattle.clock.specs.Details.{detailsTable, detailsOf, detailing}
-use Rattle.clock.specs.Calls.{Call, update, ask, details, askTable, callTable, accepted, after, afterAll}
+use Rattle.clock.specs.Details.{detailsOf}
+use Rattle.clock.specs.Calls.{Call, update, ask, details, accepted, after, afterAll}
 use Rattle.clock.specs.declared.Clock.{Clock}
 use Rattle.clock.specs.declared.Details.{Details}
 use Rattle.clock.specs.declared.Detailed.{Detailed}
-use Rattle.clock.proofs.Guarded.{passed-guarded}
-use Rattle.clock.proofs.Rows.{call-passed, either-way}
+use Rattle.clock.proofs.Rows.{either-way}
 use Rattle.demands.specs.Generation.{adds, acceptedUpdates, GenerationCounts, EqualGenerations, withNow, EqualDetails}
-use Rattle.demands.proofs.Rows.{gave}
+use Rattle.demands.proofs.Rows.{gave, ask-answered}
 use Rattle.demands.proofs.Walks.{kept-by-all}
 
 -- ---- modulo 2^32, of whatever is handed in
@@ -68,19 +63,12 @@ equal-generations c calls few same =
 
 -- ---- details
 
--- those that are not refused
-details-are : (c : Clock) (now : ℤ) → T (accepted c (ask (details now))) → detailing c now .details ≡ detailsOf c now
-unfolding callTable askTable detailing
-details-are c now t =
-    let passes = call-passed c (ask (details now)) t in
-    sym (ap (λ (d : Detailed). d .details) (answered (guarded c (detailsTable c now)) _ _ (passed-guarded c (detailsTable c now) (passes .0) (passes .1))))
-
 pub equal-details : EqualDetails
 unfolding detailsOf
-equal-details c calls s t few before after e =
-    let old = details-are c s before in
-    let new = details-are (afterAll c calls) t after in
+equal-details c calls s t few kept asked e =
+    let told : Detailed → Details = λ d. d .details in
+    let old = ap told (ask-answered c (details s) kept) in
+    let new = ap told (ask-answered (afterAll c calls) (details t) asked) in
     let generation : Details → ℕ = λ d. d .generation in
-    let equal : afterAll c calls .generation ≡ c .generation = sym (ap generation new) ∙ e ∙ ap generation old in
-    let same = equal-generations c calls few equal .same in
+    let same = equal-generations c calls few (sym (ap generation new) ∙ e ∙ ap generation old) .same in
     new ∙ ap (λ (d : Clock). detailsOf d t) same ∙ sym (ap (λ (d : Details). withNow d t) old)

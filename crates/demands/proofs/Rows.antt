@@ -1,4 +1,4 @@
--- What an accepted creation and a given reading leave known.
+-- What an accepted creation, an accepted question and a given reading leave known.
 use mathlib.Core.Path.{_≡_, refl, sym, ap, subst}
 use mathlib.Core.Bool.{Bool, true, false, cond}
 use mathlib.Core.Option.{Option, none, some}
@@ -6,18 +6,19 @@ use Prim.Native.Nat.{ℕ}
 use lib.IntN.{ℤ}
 use lib.Signed.{_≤ℤ_}
 use lib.Dec.{T}
-use Rattle.tables.proofs.Tables.{passed, answered, by-answer}
+use Rattle.tables.proofs.Tables.{passed, by-answer}
+use Rattle.tables.proofs.Tables as tables
 use Rattle.clock.specs.Numbers.{END}
 use Rattle.clock.specs.Clock.{timeTable}
 use Rattle.clock.specs.Creation.{Creation, creationTable, creationRefusal, created, creating}
 use Rattle.clock.specs.Taken.{isClock, guarded}
 use Rattle.clock.specs.Reading.{clockValue, readingTable, reading}
-use Rattle.clock.specs.Calls.{Call, update, ask, read, details, askTable, callTable, accepted, Given, nothing, _at_, given}
+use Rattle.clock.specs.Details.{detailsTable, detailing}
+use Rattle.clock.specs.Calls.{Ask, read, details, askTable, asking, answered, Call, update, ask, callTable, accepted, Given, nothing, _at_, given}
 use Rattle.clock.specs.declared.Clock.{Clock}
 use Rattle.clock.specs.declared.Reading.{Reading}
 use Rattle.clock.proofs.Ranges.{not-less}
-use Rattle.clock.proofs.Guarded.{passed-guarded}
-use Rattle.clock.proofs.Rows.{call-passed}
+use Rattle.clock.proofs.Rows.{call-unrefused, call-passed}
 use Rattle.demands.specs.Lives.{Gave}
 
 -- ---- a creation
@@ -41,7 +42,15 @@ gave word backstop now c e =
 pub gives : (word : ℕ) (backstop now : ℤ) → creationRefusal word backstop now ≡ 0 →
     Gave word backstop now (created word backstop now)
 unfolding creating creationRefusal
-gives word backstop now e = ap (λ (a : Creation). a .clock) (sym (answered (creationTable word backstop now) _ _ e))
+gives word backstop now e = ap (λ (a : Creation). a .clock) (sym (tables.answered (creationTable word backstop now) _ _ e))
+
+-- ---- a question
+
+-- an accepted one is answered as it is where nothing is refused
+pub ask-answered : (c : Clock) (q : Ask) → T (accepted c (ask q)) → asking c q ≡ answered c q
+unfolding callTable askTable reading detailing
+ask-answered c (read now) t = sym (tables.answered (guarded c (readingTable c now)) _ _ (call-unrefused c (ask (read now)) t))
+ask-answered c (details now) t = sym (tables.answered (guarded c (detailsTable c now)) _ _ (call-unrefused c (ask (details now)) t))
 
 -- ---- a reading
 
@@ -53,11 +62,10 @@ pub record Known (c : Clock) (v t : ℤ) : Type 0 where
   pub high : v ≤ℤ END
 
 read-passed : (c : Clock) (now : ℤ) → T (accepted c (ask (read now))) → Known c (reading c now .value) now
-unfolding callTable askTable reading readingTable timeTable
+unfolding callTable askTable readingTable timeTable
 read-passed c now t =
     let passes = call-passed c (ask (read now)) t in
-    let is : clockValue c now ≡ reading c now .value =
-    ap (λ (r : Reading). r .value) (answered (guarded c (readingTable c now)) _ _ (passed-guarded c (readingTable c now) (passes .0) (passes .1))) in
+    let is : clockValue c now ≡ reading c now .value = sym (ap (λ (r : Reading). r .value) (ask-answered c (read now) t)) in
     record {
       is = is;
       taken = passes .0;

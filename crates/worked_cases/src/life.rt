@@ -5,56 +5,42 @@ use clock::Detailed;
 use clock::Reading;
 use clock::Request;
 
-// A life begins with a creation.
-pub fn create(word: u8, backstop: i64, now: i64) -> Created {
+// A life begins with a creation. Where it is refused zeros stand for the clock, and are refused what they ask.
+pub fn create(word: u8, backstop: i64, now: i64) -> Clock {
     time(now);
     print::write(b" create");
     kind(word);
     argument(backstop != 0, b", backstop ", backstop);
-    let life = Clock::create(word, backstop, now);
-    match life {
-        Created::Made(_) => print::write(b": created"),
-        Created::Refused(n) => refused(n),
+    match Clock::create(word, backstop, now) {
+        Created::Made(clock) => {
+            print::write(b": created");
+            clock
+        }
+        Created::Refused(n) => {
+            refused(n);
+            Clock::zeros()
+        }
     }
-    life
 }
 
 // The life goes on as the update leaves it.
-pub fn update(life: Created, request: Request, now: i64) -> Created {
-    print::write(b"; ");
-    time(now);
+pub fn update(clock: Clock, request: Request, now: i64) -> Clock {
+    then(now);
     arguments(request);
-    match life {
-        Created::Made(clock) => {
-            let updated = clock.update(request, now);
-            outcome(updated.refusal);
-            let next = updated.clock;
-            Created::Made(next)
-        }
-        Created::Refused(n) => {
-            print::write(b": no clock");
-            Created::Refused(n)
-        }
-    }
+    let updated = clock.update(request, now);
+    outcome(updated.refusal);
+    updated.clock
 }
 
-pub fn read(life: Created, now: i64) {
-    print::write(b"; ");
-    time(now);
-    match life {
-        Created::Made(clock) => told(clock.read(now)),
-        Created::Refused(_) => print::write(b" no clock"),
-    }
+pub fn read(clock: Clock, now: i64) {
+    then(now);
+    told(clock.read(now));
 }
 
 // The generation as the details tell it.
-pub fn generation(life: Created, now: i64) {
-    print::write(b"; ");
-    time(now);
-    match life {
-        Created::Made(clock) => counted(clock.details(now)),
-        Created::Refused(_) => print::write(b" no clock"),
-    }
+pub fn generation(clock: Clock, now: i64) {
+    then(now);
+    counted(clock.details(now));
 }
 
 fn counted(detailed: Detailed) {
@@ -80,6 +66,12 @@ fn outcome(refusal: u8) {
     } else {
         refused(refusal);
     }
+}
+
+// What comes next on the line.
+fn then(now: i64) {
+    print::write(b"; ");
+    time(now);
 }
 
 fn time(now: i64) {

@@ -8,7 +8,6 @@ use crate::life::generation;
 use crate::life::read;
 use crate::life::update;
 use clock::Clock;
-use clock::Created;
 
 // The creation word without a bit.
 const PLAIN: u8 = 0;
@@ -36,7 +35,7 @@ fn main() {
 }
 
 // Case 1's clock, on which cases 2 and 7 go on.
-fn clock_1() -> Created {
+fn clock_1() -> Clock {
     let c = create(PLAIN, 0, 0);
     let c = update(c, requests::set(1500), 100);
     read(c, 350);
@@ -176,7 +175,7 @@ fn reference_and_rate_started(word: u8) {
     print::end();
 }
 
-fn started(word: u8) -> Created {
+fn started(word: u8) -> Clock {
     let c = create(word, 0, 0);
     update(c, requests::set(1500), 10)
 }
