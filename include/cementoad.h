@@ -25,8 +25,8 @@ extern "C" {
 /* ---- the version */
 
 /* The version of the boundary that this header declares. It goes up with every change of a struct, a function or a
- * number that callers were built with. */
-#define CEMENTOAD_ABI 1
+ * number that callers were built with, and with every new refusal. */
+#define CEMENTOAD_ABI 2
 
 /* The archive's version. Where it differs from CEMENTOAD_ABI, this header is too old or too new for the archive, and
  * nothing else of it may be called. */
@@ -39,6 +39,8 @@ uint32_t cementoad_abi(void);
 #define CEMENTOAD_END INT64_C(2305843009213693951)
 /* The widest rate adjustment, in parts per million. */
 #define CEMENTOAD_MAX_RATE INT32_C(1000)
+/* The widest step of a running clock's rate, either way, in parts per million. A start may have any permitted rate. */
+#define CEMENTOAD_MAX_RATE_STEP INT32_C(200)
 /* The error bound that means unknown. */
 #define CEMENTOAD_UNKNOWN_ERROR UINT64_MAX
 /* The bytes of the longest slip. */
@@ -104,6 +106,8 @@ enum cementoad_refusal {
     CEMENTOAD_BYTES_LEFT_OVER = 20,
     /* The buffer is too short for what is written. */
     CEMENTOAD_BUFFER_SHORT = 21,
+    /* A clock that runs is handed a rate more than 200 from its own. */
+    CEMENTOAD_RATE_STEP = 22,
     /* Not of the paper, and checked before all others: what is handed in for a clock fails the test that is told at
      * struct cementoad_clock. */
     CEMENTOAD_NOT_A_CLOCK = 255
@@ -234,7 +238,7 @@ struct cementoad_created cementoad_create(uint8_t word, int64_t backstop, int64_
 CEMENTOAD_ANSWERS
 struct cementoad_reading cementoad_read(struct cementoad_clock clock, int64_t now);
 
-/* The clock as the request leaves it, or unaltered with refusal 1 to 14 or 255. */
+/* The clock as the request leaves it, or unaltered with refusal 1 to 14, 22 or 255. */
 CEMENTOAD_ANSWERS
 struct cementoad_updated cementoad_update(struct cementoad_clock clock, struct cementoad_request request, int64_t now);
 

@@ -18,8 +18,8 @@ use slip::Received;
 use slip::Written;
 
 // The version of the boundary: one more with each change of a struct, a function or a number that callers were built
-// with.
-pub const ABI: u32 = 1;
+// with, and with each new refusal.
+pub const ABI: u32 = 2;
 
 // A new clock. A refused creation gives zeros, which are no clock.
 #[repr(C)]

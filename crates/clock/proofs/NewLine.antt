@@ -1,5 +1,5 @@
--- The new line of an update as the code finds it: what rules 1 to 11 let pass is drawn as the effect table says, and judged as
--- rules 12 to 14 say.
+-- The new line of an update as the code finds it: what the rules before 12 let pass is drawn as the effect table says, and
+-- judged as rules 12 to 14 say.
 use mathlib.Core.Bool.{Bool, true, false, not, cond, _&&_, _||_}
 use mathlib.Core.List.{List, [], _∷_}
 use mathlib.Core.Path.{_≡_, refl, sym, ap, subst⁻¹}
@@ -30,7 +30,7 @@ use Rattle.clock.proofs.Ranges.{not-less, in-range, end-storable, range
 use Rattle.clock.proofs.Requests.{old-drawable}
 use Rattle.clock.proofs.Guarded.{guarded-passed, rest-decides}
 
--- ---- what rules 1 to 11 leave known
+-- ---- what the rules before 12 leave known
 
 pub record Asked (c : Clock) (u : Request) (now : ℤ) : Type 0 where
   pub clock : T (isClock c)

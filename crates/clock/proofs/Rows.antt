@@ -13,7 +13,7 @@ use Rattle.clock.specs.Numbers.{END, timeOutside}
 use Rattle.clock.specs.Clock.{isRunning, monotonic, continuous, oldLine, timeTable}
 use Rattle.clock.specs.Taken.{isClock, NOT_A_CLOCK, guarded}
 use Rattle.clock.specs.Reading.{readingTable, reading}
-use Rattle.clock.specs.Update.{hasSynthetic, hasReference, replaces, valuesOutside, rateTooWide, newLine, requestTable, newLineTable, updateTable, updated, updating}
+use Rattle.clock.specs.Update.{hasSynthetic, hasReference, replaces, valuesOutside, rateTooWide, stepTooWide, newLine, requestTable, newLineTable, updateTable, updated, updating}
 use Rattle.clock.specs.Details.{detailsTable, detailing}
 use Rattle.clock.specs.Calls.{Call, update, ask, read, details, askTable, callTable, refusalOf, accepted, after}
 use Rattle.clock.specs.declared.Clock.{Clock}
@@ -72,6 +72,7 @@ pub record Passed (c : Clock) (u : Request) (now : ℤ) : Type 0 where
   pub row8 : T (not (not (isRunning c) && not (hasSynthetic u)))
   pub row9 : T (not (continuous (c .word) && hasReference u))
   pub row10 : T (not (continuous (c .word) && isRunning c && hasSynthetic u))
+  pub row22 : T (not (isRunning c && stepTooWide u (c .line .rate)))
   pub row12 : T (not (replaces u && (timeOutside (newLine c u now .synthetic) || ltZ END (valueAt (newLine c u now) now))))
   pub row13 : T (not (replaces u && ltZ (valueAt (newLine c u now) now) (c .backstop)))
   pub row14 : T (not (replaces u && (monotonic (c .word) && isRunning c && ltZ (valueAt (newLine c u now) now) (valueAt (oldLine c) now))))
@@ -88,6 +89,7 @@ passed-rows c u now t =
       row8 = fetched 8;
       row9 = fetched 9;
       row10 = fetched 10;
+      row22 = fetched 22;
       row12 = fetched 12;
       row13 = fetched 13;
       row14 = fetched 14;

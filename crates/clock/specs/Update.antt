@@ -2,7 +2,7 @@
 use mathlib.Core.Bool.{Bool, true, false, not, cond, _&&_, _||_}
 use mathlib.Core.List.{List, [], _∷_, _++_}
 use Prim.Native.Nat.{ℕ, _+_, _/_, _%_, _^_}
-use lib.IntN.{ℤ, pos}
+use lib.IntN.{ℤ, pos, _-ℤ_}
 use lib.Signed.{ltZ}
 use lib.Dec.{T, eqb}
 use mathlib.Core.Path.{_≡_}
@@ -10,7 +10,7 @@ use Rattle.tables.specs.Tables.{Row, _when_, answer}
 use Rattle.line.specs.Numbers.{outside}
 use Rattle.line.specs.Line.{line, valueAt, turned}
 use Rattle.line.specs.declared.Line.{Line}
-use Rattle.clock.specs.Numbers.{END, timeOutside, rateOutside, bit}
+use Rattle.clock.specs.Numbers.{END, timeOutside, rateOutside, stepOutside, bit}
 use Rattle.clock.specs.Clock.{monotonic, continuous, byteOf, isRunning, oldLine, timeTable}
 use Rattle.clock.specs.Taken.{guarded}
 use Rattle.clock.specs.declared.Clock.{Clock}
@@ -59,6 +59,12 @@ valuesOutside u =
 unfoldable pub rateTooWide : Request → Bool
 rateTooWide u = hasRate u && rateOutside (u .rate)
 
+-- ---- rule 22, which holds the request against a running clock's rate (02, R-9)
+
+-- a rate that counts lies further from it than the widest step, above or below
+unfoldable pub stepTooWide : Request → ℤ → Bool
+stepTooWide u present = hasRate u && stepOutside (u .rate -ℤ present)
+
 -- ---- the new line
 
 -- P of the effect table (01, 'The update word and its effect')
@@ -82,7 +88,8 @@ newLine c u now = effect (hasSynthetic u) (hasRate u) (oldLine c) (point u now) 
 
 -- ---- the refusals
 
--- the table of 01, 'When the clock says no', row by row. First the rows of time, request and clock
+-- the table of 01, 'When the clock says no', row by row, with 02's row 22 behind 11. First the rows of time, request
+-- and clock
 unfoldable pub requestTable : Clock → Request → ℤ → List Row
 requestTable c u now =
     let isMonotonic = monotonic (c .word) in
@@ -97,6 +104,7 @@ requestTable c u now =
     ∷ 9 when (isContinuous && hasReference u)
     ∷ 10 when (isContinuous && isRunning c && hasSynthetic u)
     ∷ 11 when (isMonotonic && isRunning c && hasSynthetic u && hasRate u)
+    ∷ 22 when (isRunning c && stepTooWide u (c .line .rate))
     ∷ [])
 
 -- then those that judge a new line; a line that stays is not asked

@@ -120,6 +120,9 @@ impl Clock {
     // The widest rate adjustment, in parts per million.
     pub const MAX_RATE: i32 = 1000;
 
+    // The widest step of a running clock's rate, either way, in parts per million.
+    pub const MAX_RATE_STEP: i32 = 200;
+
     // The error bound that means unknown.
     pub const UNKNOWN_ERROR: u64 = u64::MAX;
 
@@ -256,7 +259,8 @@ impl Clock {
         next(r, early, refusal::NOW_EARLY)
     }
 
-    // That of what is no clock, and rules 1 to 11 of an update: the time, the request, and what the clock allows.
+    // That of what is no clock, and rules 1 to 11 and 22 of an update: the time, the request, and what the clock
+    // allows.
     fn request_refusal(self, request: Request, now: i64) -> u8
         ensures { λ r. ⌜ r ≡ first (guarded self (requestTable self request now)) ⌝ }
     {
@@ -283,14 +287,17 @@ impl Clock {
         let r = next(r, !started & !synthetic, refusal::NOT_STARTED);
         let r = next(r, continuous & reference, refusal::CONTINUOUS_REFERENCE);
         let r = next(r, continuous & started & synthetic, refusal::CONTINUOUS_SET);
-        next(
+        let r = next(
             r,
             monotonic & started & synthetic & rate,
             refusal::MONOTONIC_SET_AND_RATE,
-        )
+        );
+        let present = self.line.rate;
+        let wide = request.step_too_wide(present);
+        next(r, started & wide, refusal::RATE_STEP)
     }
 
-    // The rest of an update that rules 1 to 11 let pass: the new line, and rules 12 to 14.
+    // The rest of an update that rules 1 to 11 and 22 let pass: the new line, and rules 12 to 14.
     fn redraw(self, request: Request, now: i64) -> Updated
         requires { ⌜ first (guarded self (requestTable self request now)) ≡ 0 ⌝ }
         ensures { λ r. ⌜ r ≡ updating self request now ⌝ }

@@ -1,24 +1,31 @@
 -- What is taken for a clock, and what a clock that creation gave keeps to.
-use mathlib.Core.Path.{_≡_, refl, ap, _∙_, subst}
+use mathlib.Core.Path.{_≡_, refl, ap, _∙_, subst, subst⁻¹}
+use mathlib.Core.Bool.{Bool, true, false, not, _&&_}
 use Prim.Native.Nat.{ℕ}
-use lib.IntN.{ℤ}
+use native.Mathlib.Omega.{arith}
+use lib.IntN.{ℤ, pos, _-ℤ_}
 use lib.Signed.{_≤ℤ_}
 use lib.Dec.{T, eqb}
-use Rattle.line.proofs.Linear.{≤ℤ-trans}
+use Rattle.tables.proofs.Tests.{fails-second}
+use Rattle.line.specs.Numbers.{outside}
+use Rattle.line.specs.Line.{turned}
+use Rattle.line.specs.declared.Line.{Line}
+use Rattle.line.proofs.Linear.{≤ℤ-trans, lin-≡, minus-lin}
+use Rattle.clock.specs.Numbers.{stepOutside}
 use Rattle.clock.specs.Clock.{isRunning}
 use Rattle.clock.specs.Taken.{isClock, NOT_A_CLOCK}
 use Rattle.clock.specs.Creation.{created}
-use Rattle.clock.specs.Update.{updated}
+use Rattle.clock.specs.Update.{hasSynthetic, hasRate, stepTooWide, point, effect, newLine, updated}
 use Rattle.clock.specs.Calls.{Call, update, ask, callTable, after}
 use Rattle.clock.specs.declared.Clock.{Clock}
-use Rattle.clock.proofs.Values.{above-backstop}
+use Rattle.clock.proofs.Values.{running-line, above-backstop}
 use Rattle.clock.proofs.Taken.{taken-valid, taken-created, created-taken, resting-created, zeros-not-taken}
 use Rattle.clock.proofs.Guarded.{guarded-apart}
-use Rattle.clock.proofs.Rows.{refusal-is, call-lacks, either-way}
+use Rattle.clock.proofs.Rows.{refusal-is, call-lacks, either-way, passed-rows}
 use Rattle.clock.proofs.Clocks.{updated-clock, after-clock, after-started}
 use Rattle.demands.specs.Lives.{Gave}
 use Rattle.demands.specs.Demand2.{NotBelow}
-use Rattle.demands.specs.Kept.{CreationGivesClock, CallsLeaveClock, ClocksValid, UnstartedAsCreated, ZerosNoClock, ToldApart, StaysStarted, WithinRange, AnyReading, Kept, AlwaysKept}
+use Rattle.demands.specs.Kept.{CreationGivesClock, CallsLeaveClock, ClocksValid, UnstartedAsCreated, ZerosNoClock, ToldApart, StaysStarted, RateSteps, WithinRange, AnyReading, Kept, AlwaysKept}
 use Rattle.demands.proofs.Rows.{gave, gives, Known, of-given}
 use Rattle.demands.proofs.Walks.{kept-by-all}
 
@@ -50,6 +57,29 @@ told-apart c k = ap (λ (n : ℕ). eqb n NOT_A_CLOCK) (refusal-is c k) ∙ guard
 
 pub stays-started : StaysStarted
 stays-started = kept-by-all (λ c. T (isRunning c)) after-started
+
+no-step : (a : ℤ) → T (not (stepOutside (a -ℤ a)))
+unfolding stepOutside outside
+no-step a = subst⁻¹ (λ z. T (not (stepOutside z))) (lin-≡ (a -ℤ a) (pos 0) (omega (arith, minus-lin a a))) tt
+
+-- the new rate is the flagged one or the old one
+effect-steps : (s a : Bool) (l : Line) (P S new : ℤ) → T (not (a && stepOutside (new -ℤ l .rate))) →
+    T (not (stepOutside (effect s a l P S new .rate -ℤ l .rate)))
+unfolding effect turned
+effect-steps true false l P S new t = no-step (l .rate)
+effect-steps false true l P S new t = t
+effect-steps true true l P S new t = t
+effect-steps false false l P S new t = no-step (l .rate)
+
+pub rate-steps : RateSteps
+unfolding after updated newLine stepTooWide
+rate-steps c (ask q) s = no-step (c .line .rate)
+rate-steps c (update u now) s = either-way (λ b d. T (not (stepOutside (d .line .rate -ℤ c .line .rate)))) c u now
+    (λ t. subst⁻¹ (λ (l : Line). T (not (stepOutside (effect (hasSynthetic u) (hasRate u) l (point u now) (u .synthetic) (u .rate) .rate -ℤ c .line .rate))))
+    (running-line c s)
+    (effect-steps (hasSynthetic u) (hasRate u) (c .line) (point u now) (u .synthetic) (u .rate)
+    (fails-second (isRunning c) (stepTooWide u (c .line .rate)) s (passed-rows c u now t .row22))))
+    (no-step (c .line .rate))
 
 pub reading-above : (c : Clock) (v t : ℤ) → Known c v t → c .backstop ≤ℤ v
 reading-above c v t known =

@@ -4,11 +4,12 @@ use mathlib.Core.Bool.{false, not}
 use mathlib.Core.List.{List}
 use mathlib.Core.Path.{_≡_}
 use Prim.Native.Nat.{ℕ}
-use lib.IntN.{ℤ}
+use lib.IntN.{ℤ, _-ℤ_}
 use lib.Dec.{T, eqb}
+use Rattle.clock.specs.Numbers.{stepOutside}
 use Rattle.clock.specs.Clock.{isRunning, InRange, Valid}
 use Rattle.clock.specs.Taken.{isClock, NOT_A_CLOCK, zeroClock}
-use Rattle.clock.specs.Calls.{Call, refusalOf, afterAll, Given, nothing, _at_, given}
+use Rattle.clock.specs.Calls.{Call, refusalOf, after, afterAll, Given, nothing, _at_, given}
 use Rattle.clock.specs.declared.Clock.{Clock}
 use Rattle.demands.specs.Lives.{Gave}
 use Rattle.demands.specs.Demand2.{NotBelow}
@@ -41,6 +42,10 @@ ToldApart = (c : Clock) (k : Call) → eqb (refusalOf c k) NOT_A_CLOCK ≡ not (
 -- what is started stays started
 abbrev pub StaysStarted : Type 0
 StaysStarted = (c : Clock) (calls : List Call) → T (isRunning c) → T (isRunning (afterAll c calls))
+
+-- no single call moves the rate of what is started by more than the widest step (02, R-9)
+abbrev pub RateSteps : Type 0
+RateSteps = (c : Clock) (k : Call) → T (isRunning c) → T (not (stepOutside (after c k .line .rate -ℤ c .line .rate)))
 
 abbrev pub WithinRange : Given → Type 0
 WithinRange nothing = Unit {0}

@@ -2,17 +2,13 @@
 use mathlib.Core.Path.{_≡_, sym, subst}
 use mathlib.Core.Bool.{true, false, not}
 use Prim.Native.Nat.{ℕ, _+_, _<_}
-use native.Mathlib.Nat.{lt-of-lt-of-le}
 use native.Mathlib.Omega.{arith}
-use lib.Dec.{T, lit≤}
+use lib.Dec.{T}
 use lib.IntN.{ℤ, pos, negsuc, _-ℤ_}
 use lib.Signed.{ltZ, _≤ℤ_}
-use mir.Syntax.{w32, w64}
+use mir.Syntax.{w64}
 use mir.Val.{SFits}
 use Rattle.line.proofs.Linear.{lin-≡, lin-≤, lt-lin, nlt-lin, minus-lin}
-
-pub widened : (z : ℤ) → SFits w32 z → SFits w64 z
-widened z f = record { sfits = lt-of-lt-of-le (f .sfits) (lit≤ tt) }
 
 pub not-negative : (z : ℤ) → ltZ z (pos 0) ≡ false → pos 0 ≤ℤ z
 not-negative z e =

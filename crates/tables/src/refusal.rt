@@ -63,5 +63,8 @@ pub const BYTES_LEFT_OVER: u8 = 20;
 // The buffer is too short for what is written.
 pub const BUFFER_SHORT: u8 = 21;
 
+// A clock that runs is handed a rate more than 200 from its own.
+pub const RATE_STEP: u8 = 22;
+
 // None of the papers' numbers: what was handed in is not taken for a clock.
 pub const NOT_A_CLOCK: u8 = 255;

@@ -32,11 +32,12 @@ fn main() {
     case_13();
     case_14();
     request_2();
+    request_9();
 }
 
-// Case 1's clock, on which cases 2 and 7 go on.
-fn clock_1() -> Clock {
-    let c = create(PLAIN, 0, 0);
+// Case 1's clock, or one of another word: case 2 and some lives of R-9 go on with it.
+fn clock_1(word: u8) -> Clock {
+    let c = create(word, 0, 0);
     let c = update(c, requests::set(1500), 100);
     read(c, 350);
     c
@@ -44,13 +45,13 @@ fn clock_1() -> Clock {
 
 fn case_1() {
     case(1);
-    clock_1();
+    clock_1(PLAIN);
     print::end();
 }
 
 fn case_2() {
     case(2);
-    let c = clock_1();
+    let c = clock_1(PLAIN);
     let c = update(c, requests::rate(-23), 1_000_100);
     read(c, 1_000_100);
     read(c, 2_000_100);
@@ -95,8 +96,8 @@ fn case_6() {
 
 fn case_7(rate: i32) {
     case(7);
-    let c = clock_1();
-    update(c, requests::rate(rate), 350);
+    let c = create(PLAIN, 0, 0);
+    update(c, requests::set_with_rate(1500, rate), 100);
     print::end();
 }
 
@@ -209,6 +210,88 @@ fn request_2() {
     generation(c, 100);
     let c = update(c, requests::error(50), 200);
     generation(c, 200);
+    print::end();
+}
+
+// A running clock's rate steps by 200 at most.
+fn request_9() {
+    steps_from_0();
+    steps_from_another_rate();
+    steps_with_a_value();
+    steps_between_11_and_12();
+    steps_before_13_and_14();
+}
+
+fn steps_from_0() {
+    head(b"R-", 9);
+    let c = clock_1(PLAIN);
+    let c = update(c, requests::rate(201), 350);
+    let c = update(c, requests::rate(-201), 350);
+    let c = update(c, requests::rate(1001), 350);
+    update(c, requests::rate(200), 350);
+    print::end();
+    head(b"R-", 9);
+    let c = clock_1(PLAIN);
+    update(c, requests::rate(-200), 350);
+    print::end();
+}
+
+// An automatic start is at 0.
+fn steps_from_another_rate() {
+    head(b"R-", 9);
+    let c = create(PLAIN, 0, 0);
+    let c = update(c, requests::set_with_rate(1500, 100), 100);
+    let c = update(c, requests::rate(-101), 350);
+    update(c, requests::rate(-100), 350);
+    print::end();
+    head(b"R-", 9);
+    let c = create(Clock::AUTO_START, 0, 0);
+    let c = update(c, requests::rate(201), 350);
+    update(c, requests::rate(200), 350);
+    print::end();
+}
+
+// A start is free of it, and so is a value without a rate.
+fn steps_with_a_value() {
+    head(b"R-", 9);
+    let c = create(Clock::MONOTONIC | Clock::CONTINUOUS, 0, 0);
+    update(c, requests::set_with_rate(1500, 1000), 100);
+    print::end();
+    head(b"R-", 9);
+    let c = create(PLAIN, 0, 0);
+    let c = update(c, requests::set_with_rate(1500, 1000), 100);
+    let c = update(c, requests::set_with_rate(1750, 799), 350);
+    let c = update(c, requests::set_with_rate(1750, 800), 350);
+    update(c, requests::set(1750), 350);
+    print::end();
+}
+
+// 11 comes first, then 22, then 12.
+fn steps_between_11_and_12() {
+    head(b"R-", 9);
+    let c = clock_1(Clock::MONOTONIC);
+    update(c, requests::set_with_rate(1750, 201), 350);
+    print::end();
+    head(b"R-", 9);
+    let c = create(PLAIN, 0, 0);
+    let c = update(c, requests::set(Clock::END), 0);
+    let c = update(c, requests::rate(200), 1);
+    update(c, requests::rate(201), 1);
+    print::end();
+}
+
+// 13 and 14 come behind it too.
+fn steps_before_13_and_14() {
+    head(b"R-", 9);
+    let c = create(PLAIN, 1000, 0);
+    let c = update(c, requests::set(1000), 0);
+    let c = update(c, requests::rate_at(200, 1000), 0);
+    update(c, requests::rate_at(201, 1000), 0);
+    print::end();
+    head(b"R-", 9);
+    let c = create(Clock::MONOTONIC | Clock::AUTO_START, 0, 0);
+    let c = update(c, requests::rate_at(-200, 1_000_000_000), 2_000_000_000);
+    update(c, requests::rate_at(-201, 1_000_000_000), 2_000_000_000);
     print::end();
 }
 

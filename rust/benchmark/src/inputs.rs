@@ -1,7 +1,8 @@
 //! What the calls are made with: many different inputs of one sort, always the same ones.
 
 use cementoad_sys::{
-    AUTO_START, CONTINUOUS, END, ERROR, LONGEST_SLIP, MONOTONIC, RATE, REFERENCE, SYNTHETIC, VERSION_2,
+    AUTO_START, CONTINUOUS, END, ERROR, LONGEST_SLIP, MAX_RATE, MAX_RATE_STEP, MONOTONIC, RATE, REFERENCE, SYNTHETIC,
+    VERSION_2,
 };
 use cementoad_sys::{Clock, Request, cementoad_create, cementoad_read, cementoad_slip_length, cementoad_update};
 
@@ -90,9 +91,25 @@ impl Dice {
             word: VERSION_2 | flags,
             synthetic: self.between(0, END),
             reference: self.between(0, END),
-            rate: self.between(-1000, 1000) as i32,
+            rate: self.between((-MAX_RATE).into(), MAX_RATE.into()) as i32,
             error: self.any(),
         }
+    }
+
+    /// A rate that the running clock takes.
+    fn rate_within_a_step(&mut self, clock: &Clock) -> i32 {
+        let first = (clock.line.rate - MAX_RATE_STEP).max(-MAX_RATE);
+        let last = (clock.line.rate + MAX_RATE_STEP).min(MAX_RATE);
+        self.between(first.into(), last.into()) as i32
+    }
+
+    /// A rate that is too far from the running clock's, on the side that has more room.
+    fn rate_beyond_a_step(&mut self, clock: &Clock) -> i32 {
+        let (first, last) = match clock.line.rate {
+            rate @ ..0 => (rate + MAX_RATE_STEP + 1, MAX_RATE),
+            rate => (-MAX_RATE, rate - MAX_RATE_STEP - 1),
+        };
+        self.between(first.into(), last.into()) as i32
     }
 
     /// A running clock of one of these words, and a time to ask it at. Half of them had their error bound updated since
@@ -207,14 +224,15 @@ pub fn sets(dice: &mut Dice, distance: Distance) -> Vec<Updating> {
 pub fn rates(dice: &mut Dice, distance: Distance) -> Vec<Updating> {
     dice.many(|dice| {
         let (clock, now) = dice.running(&KINDS, distance);
-        answered(0, clock, dice.request(RATE), now)
+        let rate = dice.rate_within_a_step(&clock);
+        answered(0, clock, Request { rate, ..dice.request(RATE) }, now)
     })
 }
 
-/// Updates that are refused with 1 to 11, before any line is drawn.
+/// Updates that are refused with 1 to 11 or 22, before any line is drawn.
 pub fn refused_requests(dice: &mut Dice) -> Vec<Updating> {
     dice.many(|dice| {
-        let refusal = dice.between(1, 11) as u8;
+        let refusal = dice.of(&[1, 2, 3, 4, 5, 6, 7, 8, 9, 10, 11, 22]);
         let (words, flags): (&[u8], u64) = match refusal {
             4 => (&KINDS, 0),
             5 => (&KINDS, SYNTHETIC),
@@ -233,6 +251,7 @@ pub fn refused_requests(dice: &mut Dice) -> Vec<Updating> {
             5 => request.synthetic = dice.outside(),
             6 => request.rate = dice.of(&WRONG_RATES),
             8 => clock = created(clock.word, 1, clock.latest),
+            22 => request.rate = dice.rate_beyond_a_step(&clock),
             _ => {}
         }
         answered(refusal, clock, request, now)

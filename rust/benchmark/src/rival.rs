@@ -1,8 +1,9 @@
-//! The rival: the clock of the scope paper ('01', `01-scope.md`) in plain Rust, as one writes it without proofs.
+//! The rival: the clock of the scope paper ('01', `01-scope.md`), as the requests ('02') that landed amend it, in plain
+//! Rust, as one writes it without proofs.
 //!
-//! Numbers are 128 bits wide, so that no sum or product of what is handed in can overflow. The rules stand in 01's
-//! order, refusals by its numbers; a refusal of 0 is none. Clocks are trusted: each is one that creation and updates
-//! gave.
+//! Numbers are 128 bits wide, so that no sum or product of what is handed in can overflow. The rules stand in the
+//! papers' order, refusals by their numbers; a refusal of 0 is none. Clocks are trusted: each is one that creation and
+//! updates gave.
 
 mod slip;
 
@@ -13,6 +14,8 @@ pub use slip::{read_slip, slip_length, write_slip};
 const END: i128 = (1 << 61) - 1;
 /// The widest rate adjustment, in parts per million.
 const MAX_RATE: i128 = 1000;
+/// The widest step of the rate of a clock that runs (02, R-9).
+const MAX_RATE_STEP: i128 = 200;
 /// Parts in a whole, for rates; millionths in a nanosecond, for values.
 const MILLION: i128 = 1_000_000;
 /// The error bound that means unknown, all ones.
@@ -89,6 +92,11 @@ impl Asked {
     fn rate_outside(&self) -> bool {
         self.rate.is_some_and(|rate| rate < -MAX_RATE || rate > MAX_RATE)
     }
+
+    /// Refusal 22 of a clock that runs at this rate.
+    fn wide_step(&self, from: i128) -> bool {
+        self.rate.is_some_and(|rate| (rate - from).abs() > MAX_RATE_STEP)
+    }
 }
 
 fn outside(time: i128) -> bool {
@@ -164,7 +172,8 @@ pub fn update(clock: &Clock, request: &Request, now: i64) -> (u8, Clock) {
     answer(updated(clock, request.word, &Asked::of(request), now.into()), *clock)
 }
 
-/// The table of 01, 'When the clock says no', and then the effect. 12 to 14 speak of a line that is replaced.
+/// The table of 01, 'When the clock says no', with R-9's row of 02, and then the effect. 12 to 14 speak of a line that
+/// is replaced.
 fn updated(clock: &Clock, word: u64, asked: &Asked, now: i128) -> Result<Clock, u8> {
     let sets = asked.synthetic.is_some();
     let refers = asked.reference.is_some();
@@ -180,6 +189,7 @@ fn updated(clock: &Clock, word: u64, asked: &Asked, now: i128) -> Result<Clock, 
     refuse(9, clock.is(CONTINUOUS) && refers)?;
     refuse(10, clock.is(CONTINUOUS) && clock.started && sets)?;
     refuse(11, clock.is(MONOTONIC) && clock.started && sets && rates)?;
+    refuse(22, clock.started && asked.wide_step(clock.line.rate))?;
     let new = new_line(clock, asked, now);
     if let Some(line) = &new {
         let value = line.value(now);

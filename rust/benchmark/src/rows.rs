@@ -35,7 +35,7 @@ pub fn rows() -> Vec<Row> {
         update("update: set, far", inputs::sets(dice, Far)),
         update("update: rate only, near", inputs::rates(dice, Near)),
         update("update: rate only, far", inputs::rates(dice, Far)),
-        update("update, refused (1 to 11)", inputs::refused_requests(dice)),
+        update("update, refused (1 to 11, 22)", inputs::refused_requests(dice)),
         update("update, refused (12 to 14), near", inputs::refused_lines(dice, Near)),
         update("update, refused (12 to 14), far", inputs::refused_lines(dice, Far)),
         slip_reading("slip reading: all four fields, 27 bytes", inputs::slips(dice, FULL)),

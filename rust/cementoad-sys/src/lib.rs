@@ -11,14 +11,18 @@ mod abi;
 pub use abi::check_archive;
 
 /// The version of the boundary that is declared here. It goes up with every change of a struct, a function or a number
-/// that callers were built with. Where [`cementoad_abi`] answers another, nothing else of the archive may be called.
-pub const ABI: u32 = 1;
+/// that callers were built with, and with every new refusal. Where [`cementoad_abi`] answers another, nothing else of
+/// the archive may be called.
+pub const ABI: u32 = 2;
 
 /// The end of the range of times and values, 2^61 - 1.
 pub const END: i64 = (1 << 61) - 1;
 
 /// The widest rate adjustment, in parts per million.
 pub const MAX_RATE: i32 = 1000;
+
+/// The widest step of a running clock's rate, either way, in parts per million. A start may have any permitted rate.
+pub const MAX_RATE_STEP: i32 = 200;
 
 /// The error bound that means unknown.
 pub const UNKNOWN_ERROR: u64 = u64::MAX;
@@ -213,7 +217,7 @@ unsafe extern "C" {
     /// The clock's value at now, or refusal 1, 2, 12 or 255.
     pub safe fn cementoad_read(clock: Clock, now: i64) -> Reading;
 
-    /// The clock as the request leaves it, or unaltered with refusal 1 to 14 or 255.
+    /// The clock as the request leaves it, or unaltered with refusal 1 to 14, 22 or 255.
     pub safe fn cementoad_update(clock: Clock, request: Request, now: i64) -> Updated;
 
     /// What the clock tells of itself at now, or refusal 1, 2 or 255.

@@ -44,7 +44,7 @@ macro_rules! constants {
 }
 
 fn constants() {
-    constants!(ABI END MAX_RATE UNKNOWN_ERROR LONGEST_SLIP);
+    constants!(ABI END MAX_RATE MAX_RATE_STEP UNKNOWN_ERROR LONGEST_SLIP);
     constants!(MONOTONIC CONTINUOUS AUTO_START);
     constants!(VERSION_2 SYNTHETIC REFERENCE RATE ERROR);
 }

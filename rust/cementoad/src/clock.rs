@@ -34,6 +34,10 @@ impl Clock {
     /// The widest rate adjustment, in parts per million.
     pub const MAX_RATE: i32 = ffi::MAX_RATE;
 
+    /// The widest step of a running clock's rate, either way, in parts per million. A start may have any permitted
+    /// rate.
+    pub const MAX_RATE_STEP: i32 = ffi::MAX_RATE_STEP;
+
     /// The error bound that means unknown.
     pub const UNKNOWN_ERROR: u64 = ffi::UNKNOWN_ERROR;
 
@@ -81,7 +85,7 @@ impl Clock {
         Ok(reading.value)
     }
 
-    /// Alters the clock at now as the request says; or refusal 1 to 14, which leaves the clock unaltered.
+    /// Alters the clock at now as the request says; or refusal 1 to 14 or 22, which leaves the clock unaltered.
     ///
     /// ```
     /// use cementoad::{Clock, Refusal, Request};
@@ -91,6 +95,9 @@ impl Clock {
     /// // At 350 the clock reads 1750, and may be set to that but not to less.
     /// assert_eq!(clock.update(&Request::new().synthetic(1749), 350), Err(Refusal::MonotonicBack));
     /// assert_eq!(clock.update(&Request::new().synthetic(1750), 350), Ok(()));
+    /// // Running at 0, it may be trimmed by up to 200.
+    /// assert_eq!(clock.update(&Request::new().rate(900), 350), Err(Refusal::RateStep));
+    /// assert_eq!(clock.update(&Request::new().rate(90), 350), Ok(()));
     /// # Ok::<(), Refusal>(())
     /// ```
     pub fn update(&mut self, request: &Request, now: i64) -> Result<(), Refusal> {

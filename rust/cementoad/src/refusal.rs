@@ -81,10 +81,11 @@ refusals! {
     (19, PaddingSet, "PADDING_SET", "a padding bit is set");
     (20, BytesLeftOver, "BYTES_LEFT_OVER", "bytes follow what is read");
     (21, BufferShort, "BUFFER_SHORT", "the buffer is too short for what is written");
+    (22, RateStep, "RATE_STEP", "a clock that runs is handed a rate more than 200 from its own");
 }
 
 impl Refusal {
-    /// The paper's number, 1 to 21.
+    /// The paper's number, 1 to 22.
     pub const fn number(self) -> u8 {
         self as u8
     }
@@ -106,7 +107,7 @@ impl fmt::Display for Refusal {
 
 impl Error for Refusal {}
 
-/// A number that is none of the paper's refusals: 0, or one above 21.
+/// A number that is none of the paper's refusals: 0, or one above 22.
 #[derive(Clone, Copy, Debug, PartialEq, Eq, Hash)]
 pub struct UnknownRefusal(
     /// The number.

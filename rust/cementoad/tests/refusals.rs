@@ -4,7 +4,7 @@ use std::collections::BTreeSet;
 
 use cementoad::{Refusal, UnknownRefusal};
 
-const NAMES: [&str; 21] = [
+const NAMES: [&str; 22] = [
     "NOW_OUTSIDE",
     "NOW_EARLY",
     "WORD_WRONG",
@@ -26,6 +26,7 @@ const NAMES: [&str; 21] = [
     "PADDING_SET",
     "BYTES_LEFT_OVER",
     "BUFFER_SHORT",
+    "RATE_STEP",
 ];
 
 #[test]
@@ -53,8 +54,8 @@ fn each_text_has_its_number_and_a_sentence_of_its_own() {
 
 #[test]
 fn other_numbers_are_unknown() {
-    for number in (0..=255).filter(|number| !(1..=21).contains(number)) {
+    for number in (0..=255).filter(|number| !(1..=22).contains(number)) {
         assert_eq!(Refusal::try_from(number), Err(UnknownRefusal(number)));
     }
-    assert_eq!(UnknownRefusal(22).to_string(), "22 is not the number of a refusal");
+    assert_eq!(UnknownRefusal(23).to_string(), "23 is not the number of a refusal");
 }

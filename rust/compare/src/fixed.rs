@@ -126,8 +126,8 @@ fn worked_cases() -> Lists {
         "case 5": Create(PLAIN, 0, 0), Update(with(1, at(10, set(10))), 9), reads(9, 8), reads(10, 10);
         "case 6": Create(PLAIN, 0, 0), Update(with(-1, set(0)), 0), Update(rate(-1), 1), Update(rate(-1), 2),
             reads(3, 0);
-        "case 7": Create(PLAIN, 0, 0), Update(set(1500), 100), Update(rate(1000), 350), Update(rate(1001), 350) => 6,
-            Update(rate(-1000), 350), Update(rate(-1001), 350) => 6;
+        "case 7": Create(PLAIN, 0, 0), Update(with(1001, set(1500)), 100) => 6, Update(with(1000, set(1500)), 100),
+            Create(PLAIN, 0, 0), Update(with(-1001, set(1500)), 100) => 6, Update(with(-1000, set(1500)), 100);
         "case 8": Create(PLAIN, 1000, 0), Update(set(999), 0) => 13, Update(set(1000), 0);
         "case 9": Create(AUTO_START, 5, 4) => 17, Create(AUTO_START, 5, 5);
         "case 10": Create(PLAIN, 0, 0), Update(set(END), 0), reads(0, END), Read(1) => 12;
@@ -174,7 +174,7 @@ fn readings() -> Lists {
     }
 }
 
-/// Rules 1 to 11, before any line is drawn.
+/// Rules 1 to 11 and 22, before any line is drawn.
 fn requests_refused() -> Lists {
     lists! {
         "update 1": Create(PLAIN, 0, 0), Update(set(0), -1) => 1, Update(set(0), END + 1) => 1, Update(set(0), END),
@@ -189,9 +189,10 @@ fn requests_refused() -> Lists {
         "update 5 reference": Create(PLAIN, 0, 0), Update(at(-1, set(5)), 10) => 5,
             Update(at(END + 1, set(END)), 10) => 5, Update(at(0, set(5)), 10), Update(at(END, set(END)), 10),
             Update(at(-1, rate(5)), 10) => 5;
-        "update 6": Create(PLAIN, 0, 0), Update(with(1001, set(5)), 0) => 6, Update(with(-1001, set(5)), 0) => 6,
-            Update(with(1000, set(5)), 0), Update(with(-1000, set(5)), 0), Update(rate(i32::MIN), 0) => 6,
-            Update(rate(i32::MAX), 0) => 6;
+        "update 6": Create(PLAIN, 0, 0), Update(with(900, set(5)), 0), Update(with(1001, set(5)), 0) => 6,
+            Update(rate(1000), 0), Update(rate(i32::MIN), 0) => 6, Update(rate(i32::MAX), 0) => 6,
+            Create(PLAIN, 0, 0), Update(with(-900, set(5)), 0), Update(with(-1001, set(5)), 0) => 6,
+            Update(rate(-1000), 0);
         "update 7": Create(PLAIN, 0, 0), Update(set(100), 10), Update(at(5, word(VERSION_2)), 10) => 7,
             Update(at(5, error(1)), 10) => 7, Update(at(5, rate(1)), 10), Update(at(5, set(1)), 10);
         "update 8": Create(PLAIN, 0, 0), Update(rate(1), 0) => 8, Update(error(1), 0) => 8,
@@ -203,6 +204,18 @@ fn requests_refused() -> Lists {
             Update(error(1), 20), Create(STEADY | AUTO_START, 0, 0), Update(set(100), 20) => 10;
         "update 11": Create(MONOTONIC, 0, 0), Update(with(3, set(5)), 0), Update(with(3, set(50)), 0) => 11,
             Update(set(50), 0), Update(rate(-3), 0), Create(PLAIN, 0, 0), Update(set(5), 0), Update(with(3, set(1)), 0);
+        "update 22 from 0": Create(AUTO_START, 0, 0), Update(rate(201), 0) => 22, Update(rate(-201), 0) => 22,
+            Update(rate(200), 0), Create(PLAIN, 0, 0), Update(set(5), 0), Update(rate(201), 0) => 22,
+            Update(rate(-201), 0) => 22, Update(rate(-200), 0);
+        "update 22 from the present rate": Create(PLAIN, 0, 0), Update(with(100, set(5)), 0),
+            Update(rate(301), 0) => 22, Update(rate(-101), 0) => 22, Update(rate(-100), 0), Update(rate(101), 0) => 22,
+            Update(rate(-300), 0), Create(STEADY, 0, 0), Update(with(1000, set(5)), 0), Update(rate(799), 0) => 22,
+            Update(rate(800), 0);
+        "update 22 with a value": Create(PLAIN, 0, 0), Update(with(-1000, set(5)), 0),
+            Update(with(-799, set(5)), 0) => 22, Update(at(5, with(-799, set(5))), 0) => 22,
+            Update(with(-800, set(5)), 0);
+        "update 22 only of a flagged rate": Create(PLAIN, 0, 0), Update(with(800, set(5)), 0), Update(set(6), 0),
+            Update(error(1), 0), Update(junk(set(7)), 0), Update(junk(error(1)), 0);
     }
 }
 
@@ -217,11 +230,12 @@ fn lines_refused() -> Lists {
             Update(at(11, set(END)), 10);
         "update 12 only a new line": Create(PLAIN, 0, 0), Update(set(END), 0), Update(rate(0), 1) => 12,
             Update(error(1), 1), Update(rate(0), 1) => 12, Update(set(END), 1);
-        "update 12 a wide product": Create(AUTO_START, 0, 0), Update(at(0, rate(1000)), END) => 12,
+        "update 12 a wide product": Create(PLAIN, 0, 0), Update(with(900, set(0)), 0),
+            Update(at(0, rate(1000)), END) => 12, Create(PLAIN, 0, 0), Update(with(-900, set(0)), 0),
             Update(at(0, rate(-1000)), END), reads(END, 2_303_537_166_204_480_257);
         "update 13 set": Create(PLAIN, 1000, 0), Update(at(11, set(1000)), 10) => 13, Update(at(9, set(999)), 10),
             Update(at(10, set(999)), 10) => 13, Update(at(10, set(1000)), 10);
-        "update 13 rate": Create(PLAIN, 1000, 0), Update(set(1000), 0), Update(at(1000, rate(1000)), 0) => 13,
+        "update 13 rate": Create(PLAIN, 1000, 0), Update(set(1000), 0), Update(at(1000, rate(200)), 0) => 13,
             Update(at(1, rate(1)), 0) => 13, Update(at(1, rate(0)), 0), Update(at(1, rate(-1)), 0);
         "update 14 set": Create(MONOTONIC, 0, 0), Update(set(50), 100), Update(set(59), 110) => 14,
             Update(set(60), 110), Update(at(111, set(60)), 110) => 14, Update(at(109, set(59)), 110),
@@ -244,7 +258,15 @@ fn orders() -> Lists {
             Update(at(1, rate(1)), 10) => 8, Update(set(5), 10), Update(at(10, set(20)), 10) => 9,
             Update(with(1, set(20)), 10) => 10, Update(at(1, error(1)), 10) => 7;
         "11 before 12": Create(MONOTONIC, 0, 0), Update(set(5), 10), Update(at(9, with(0, set(END))), 10) => 11;
-        "12 before 13": Create(PLAIN, 1000, 0), Update(set(1000), 2000), Update(at(0, rate(-1000)), 2000) => 12;
+        "12 before 13": Create(PLAIN, 1000, 0), Update(set(1000), 2000), Update(at(0, rate(-200)), 2000) => 12;
+        "6 and 11 before 22": Create(MONOTONIC | AUTO_START, 0, 0), Update(rate(1001), 10) => 6,
+            Update(with(201, set(50)), 10) => 11;
+        "22 before 12": Create(PLAIN, 0, 0), Update(set(END), 0), Update(rate(200), 1) => 12,
+            Update(rate(201), 1) => 22;
+        "22 before 13": Create(PLAIN, 1000, 0), Update(set(1000), 0), Update(at(1000, rate(200)), 0) => 13,
+            Update(at(1000, rate(201)), 0) => 22;
+        "22 before 14": Create(MONOTONIC | AUTO_START, 0, 0), Update(at(0, rate(-200)), 5000) => 14,
+            Update(at(0, rate(-201)), 5000) => 22;
     }
 }
 
@@ -276,7 +298,7 @@ fn effects() -> Lists {
         "a refused update leaves no trace": Create(PLAIN, 0, 0), Update(set(5), 0), Update(at(5, error(9)), 100) => 7,
             Update(error(1), 50), tells((PLAIN, 0), 60, (0, 5, 0), 1, 3, 50);
         "a rate at another time keeps the value there": Create(PLAIN, 0, 0), Update(set(100), 10),
-            Update(at(1000, rate(500)), 20), tells((PLAIN, 0), 20, (1000, 1090, 500), unknown, 3, 20),
+            Update(at(1000, rate(200)), 20), tells((PLAIN, 0), 20, (1000, 1090, 200), unknown, 3, 20),
             reads(1000, 1090);
     }
 }

@@ -68,7 +68,8 @@ fn time_of(line: &Line, value: i64) -> i64 {
 fn request(rng: &mut Rng, clock: &Clock, now: i64) -> Request {
     let word = if rng.percent(4) { word(rng) } else { VERSION_2 | flags(rng, clock) };
     let flagged = |rng: &mut Rng, flag: u64| word & flag != 0 || rng.percent(50);
-    let (rate, error) = (rng.rate(), rng.error());
+    let rate = if word & RATE != 0 { rate(rng, clock) } else { rng.rate() };
+    let error = rng.error();
     let reference = if flagged(rng, REFERENCE) { reference(rng, clock, now) } else { rng.edge() };
     let new_rate = if word & RATE != 0 { rate } else { clock.line.rate };
     let point = if word & REFERENCE != 0 { reference } else { now };
@@ -99,6 +100,17 @@ fn word(rng: &mut Rng) -> u64 {
     let (version, stray) = (rng.below(64) << 58, 1 << rng.below(54));
     let versions = [0, 1, 2, 3].map(|version| flags | version << 58);
     rng.pick(&[versions.as_slice(), &[flags | version, VERSION_2 | flags | stray, 0, u64::MAX, any]].concat())
+}
+
+/// Most rates for a clock that runs are a step that it takes, or at the edge of that.
+fn rate(rng: &mut Rng, clock: &Clock) -> i32 {
+    if clock.started == 0 || rng.percent(10) {
+        return rng.rate();
+    }
+    let inside = rng.below(2 * MAX_RATE_STEP as u64 + 1) as i32 - MAX_RATE_STEP;
+    let edge = rng.pick(&[-1, 1]) * (MAX_RATE_STEP + rng.pick(&[-1, 0, 1]));
+    let step = rng.pick(&[inside, inside, inside, inside, inside, inside, edge]);
+    clock.line.rate.saturating_add(step).clamp(-MAX_RATE, MAX_RATE)
 }
 
 /// A reference near now, or where the old line is at an end of the range.

@@ -13,14 +13,15 @@ use crate::is_clock::{PARTS, failing};
 /// How often each is to be met.
 pub const LEAST: u64 = 1000;
 
-/// The kinds of calls, each with its refusals. Clocks made up by hand stand last.
+/// The kinds of calls, each with its refusals in the order in which they are tested; 18, which a slip is tested for
+/// twice, as the second time. Clocks made up by hand stand last.
 const KINDS: [(&str, &[u8]); 9] = [
     ("create", &[1, 3, 15, 16, 17]),
-    ("read", &[1, 2, 12, 255]),
-    ("details", &[1, 2, 255]),
-    ("update", &[1, 2, 3, 4, 5, 6, 7, 8, 9, 10, 11, 12, 13, 14, 255]),
+    ("read", &[255, 1, 2, 12]),
+    ("details", &[255, 1, 2]),
+    ("update", &[255, 1, 2, 3, 4, 5, 6, 7, 8, 9, 10, 11, 22, 12, 13, 14]),
     ("started", &[]),
-    ("read slip", &[3, 6, 18, 19, 20]),
+    ("read slip", &[3, 18, 6, 19, 20]),
     ("write slip", &[3, 5, 6, 21]),
     ("slip length", &[]),
     ("made up", &[]),
@@ -86,6 +87,7 @@ impl Met {
             Call::Update(request, now) => {
                 self.now(clock, now);
                 self.arguments(&request);
+                self.step(clock, &request);
                 self.line(clock, &request, now);
             }
             Call::WriteSlip(request, ref buffer) => {
@@ -98,9 +100,10 @@ impl Met {
         }
     }
 
-    /// Whether no check before this one applied: they go in the order of their numbers.
+    /// Whether no check before this one applied.
     fn reaches(&self, rule: u8) -> bool {
-        self.refusal == NO_REFUSAL || rule <= self.refusal
+        let place = |number| KINDS[self.kind].1.iter().position(|&refusal| refusal == number);
+        self.refusal == NO_REFUSAL || place(rule) <= place(self.refusal)
     }
 
     fn compare(&mut self, rule: u8, what: &'static str, left: impl Into<i128>, right: impl Into<i128>) {
@@ -155,6 +158,19 @@ impl Met {
             self.compare(6, "rate and the least", request.rate, -MAX_RATE);
             self.compare(6, "rate and the widest", request.rate, MAX_RATE);
         }
+    }
+
+    /// Rule 22, and what is free of it.
+    fn step(&mut self, clock: &Clock, request: &Request) {
+        let step = i64::from(request.rate) - i64::from(clock.line.rate);
+        let (running, rated) = (clock.started == 1, request.word & RATE != 0);
+        let wide = self.refusal == NO_REFUSAL && step.abs() > MAX_RATE_STEP.into();
+        if running && rated {
+            self.compare(22, "step and the widest down", step, -MAX_RATE_STEP);
+            self.compare(22, "step and the widest up", step, MAX_RATE_STEP);
+        }
+        self.row("a start beyond a step", wide && rated && !running);
+        self.row("beyond a step, not flagged", wide && !rated && running);
     }
 
     /// Rules 12 to 14, and the rows of the effect table.

@@ -4,6 +4,8 @@
 pub const END: i128 = (1 << 61) - 1;
 /// The widest rate adjustment either way, in parts per million.
 pub const MAX_RATE: i128 = 1000;
+/// The widest step of a running clock's rate either way (02, R-9).
+const MAX_RATE_STEP: i128 = 200;
 /// Parts in a whole, and millionths in a nanosecond.
 pub const MILLION: i128 = 1_000_000;
 
@@ -187,7 +189,8 @@ pub(crate) fn bad_rate(request: &Request) -> bool {
     request.has(RATE) && (slow || fast)
 }
 
-/// The table of refusals of an update (01, When the clock says no). Where there is no line, zeros stand in for it.
+/// The table of refusals of an update (01, When the clock says no), with R-9's behind 11 (02). Where there is no line,
+/// zeros stand in for it.
 fn update_refusal(clock: &Clock, request: &Request, now: i128) -> u8 {
     let monotonic = clock.word & MONOTONIC != 0;
     let continuous = clock.word & CONTINUOUS != 0;
@@ -197,6 +200,7 @@ fn update_refusal(clock: &Clock, request: &Request, now: i128) -> u8 {
     let rate = request.has(RATE);
     let error = request.has(ERROR);
     let old = clock.line.unwrap_or_default();
+    let step = i128::from(request.rate) - old.rate;
     let replaced = new_line(clock, request, now).is_some();
     let new = new_line(clock, request, now).unwrap_or_default();
     let new_value = value(&new, now);
@@ -212,6 +216,7 @@ fn update_refusal(clock: &Clock, request: &Request, now: i128) -> u8 {
         (9, continuous && reference),
         (10, continuous && started && synthetic),
         (11, monotonic && started && synthetic && rate),
+        (22, started && rate && step.abs() > MAX_RATE_STEP),
         (12, replaced && (outside(new.synthetic) || new_value > END)),
         (13, replaced && new_value < clock.backstop),
         (14, replaced && monotonic && started && new_value < value(&old, now)),

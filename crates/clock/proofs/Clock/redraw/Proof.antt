@@ -17,7 +17,7 @@ use borrow.Author.Needs.{needs}
 use Rattle.clock.proofs.Clock.redraw.Statement.{statement}
 use Rattle.clock.proofs.Clock.redraw.Tie as tie
 
--- ---- what rules 1 to 11 leave known
+-- ---- what the rules before 12 leave known
 
 module _ (s : tie.Start) where
   abbrev known : Asked (s .args .self) (s .args .request) (s .args .now)

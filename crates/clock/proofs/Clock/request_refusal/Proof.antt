@@ -1,5 +1,6 @@
 use mathlib.Core.Path.{_≡_, sym, _∙_}
-use mir.Syntax.{w64}
+use mir.Syntax.{w32, w64}
+use mir.Val.{toZ, ofZ}
 use mir.ValLaws.{toZ-ofZ}
 use Rattle.tables.specs.Tables.{first}
 use Rattle.tables.proofs.Tables.{row, walk-first}
@@ -10,10 +11,16 @@ use borrow.Author.Needs.{needs}
 use Rattle.clock.proofs.Clock.request_refusal.Statement.{statement}
 use Rattle.clock.proofs.Clock.request_refusal.Tie as tie
 
+-- the present rate as the machine holds it
+rate-back : (s : tie.Start) → toZ w32 (ofZ w32 (s .args .self .line .rate)) ≡ s .args .self .line .rate
+rate-back s = search needs
+
 returns : tie.Need-returns
 unfolding guarded requestTable timeTable
 returns c =
-    let row10 = c .before in
+    let step = c .before in
+    let row11 = step .before .before in
+    let row10 = row11 .before in
     let row9 = row10 .before in
     let row8 = row9 .before in
     let row7 = row8 .before in
@@ -31,7 +38,8 @@ returns c =
     let s = monotonic .before .before in
     let times = guarded (s .args .self) (timeTable (s .args .self) (s .args .now)) in
     let told : time .time-refusal .result ≡ first times = time .time-refusal .ensures ∙ simp (toZ-ofZ w64 _ (s .fits .now)) in
-    row 11 (c .next9 .ensures)
+    row 22 (c .next10 .ensures)
+    (row 11 (row11 .next9 .ensures)
     (row 10 (row10 .next8 .ensures)
     (row 9 (row9 .next7 .ensures)
     (row 8 (row8 .next6 .ensures)
@@ -47,13 +55,16 @@ returns c =
     (simp (flags .flags .ensures)))
     (simp (continuous .has2 .ensures, flags .flags .ensures)))
     (simp (continuous .has2 .ensures, flags .flags .ensures)))
-    (simp (monotonic .has .ensures, flags .flags .ensures))
+    (simp (monotonic .has .ensures, flags .flags .ensures)))
+    (simp (step .step-too-wide .ensures, rate-back s))
     ∙ walk-first (guarded (s .args .self) (requestTable (s .args .self) (s .args .request) (s .args .now))) tt
 
 pub request-refusal-spec : {M : Type 1} → statement M
 request-refusal-spec =
     tie.close
     (tie.spec
+    (λ c κs. search needs)
+    (λ c κs. search needs)
     (λ c κs. search needs)
     (λ c κs. search needs)
     (λ c κs. search needs)
