@@ -7,7 +7,7 @@ use Rattle.clock.specs.Numbers.{timeOutside, rateOutside, stepOutside}
 use Rattle.clock.specs.Clock.{oldLine, timeTable}
 use Rattle.clock.specs.Creation.{creationTable, creationRefusal, created, creating}
 use Rattle.clock.specs.Reading.{clockValue, readingTable, reading}
-use Rattle.clock.specs.Update.{wordWrong, valuesOutside, rateTooWide, stepTooWide, point, effect, newLine, requestTable, newLineTable, updateTable, nextGeneration, updated, updating}
+use Rattle.clock.specs.Update.{wordWrong, valuesOutside, rateTooWide, point, effect, newLine, requestTable, newLineTable, updateTable, nextGeneration, updated, updating}
 use Rattle.clock.specs.Details.{detailsTable, detailsOf, detailing}
 use Rattle.clock.specs.Taken.{drawable, mayRun, asCreated, isClock, guarded}
 use Rattle.clock.specs.Calls.{refusalOf, accepted, after}
@@ -22,5 +22,5 @@ use Rattle.cases.specs.Case.{all}
 use Rattle.cases.specs.Table.{table}
 
 pub cases-settled : all table ≡ true
-unfolding isZeros bounded reaches drawable mayRun asCreated isClock guarded outside timeOutside rateOutside stepOutside valueAt turned oldLine timeTable creationTable creationRefusal created creating clockValue readingTable reading wordWrong valuesOutside rateTooWide stepTooWide point effect newLine requestTable newLineTable updateTable nextGeneration updated updating detailsTable detailsOf detailing refusalOf accepted after idealAt historyOf rateBefore changed noted number digits row bytesOf field packed fields widths slipLength padding layout headed valuesIn headerTable fieldsTable frontTable slipTable readingSlip valuesOf slipOf writingTable writing
+unfolding isZeros bounded reaches drawable mayRun asCreated isClock guarded outside timeOutside rateOutside stepOutside valueAt turned oldLine timeTable creationTable creationRefusal created creating clockValue readingTable reading wordWrong valuesOutside rateTooWide point effect newLine requestTable newLineTable updateTable nextGeneration updated updating detailsTable detailsOf detailing refusalOf accepted after idealAt historyOf rateBefore changed noted number digits row bytesOf field packed fields widths slipLength padding layout headed valuesIn headerTable fieldsTable frontTable slipTable readingSlip valuesOf slipOf writingTable writing
 cases-settled = refl

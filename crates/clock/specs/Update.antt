@@ -59,12 +59,6 @@ valuesOutside u =
 unfoldable pub rateTooWide : Request → Bool
 rateTooWide u = hasRate u && rateOutside (u .rate)
 
--- ---- rule 22, which holds the request against a running clock's rate (02, R-9)
-
--- a rate that counts lies further from it than the widest step, above or below
-unfoldable pub stepTooWide : Request → ℤ → Bool
-stepTooWide u present = hasRate u && stepOutside (u .rate -ℤ present)
-
 -- ---- the new line
 
 -- P of the effect table (01, 'The update word and its effect')
@@ -88,8 +82,8 @@ newLine c u now = effect (hasSynthetic u) (hasRate u) (oldLine c) (point u now) 
 
 -- ---- the refusals
 
--- the table of 01, 'When the clock says no', row by row, with 02's row 22 behind 11. First the rows of time, request
--- and clock
+-- the table of 01, 'When the clock says no', row by row, with R-9's row of 02 behind 11. First the rows of time,
+-- request and clock
 unfoldable pub requestTable : Clock → Request → ℤ → List Row
 requestTable c u now =
     let isMonotonic = monotonic (c .word) in
@@ -104,7 +98,7 @@ requestTable c u now =
     ∷ 9 when (isContinuous && hasReference u)
     ∷ 10 when (isContinuous && isRunning c && hasSynthetic u)
     ∷ 11 when (isMonotonic && isRunning c && hasSynthetic u && hasRate u)
-    ∷ 22 when (isRunning c && stepTooWide u (c .line .rate))
+    ∷ 22 when (isRunning c && (hasRate u && stepOutside (u .rate -ℤ c .line .rate)))
     ∷ [])
 
 -- then those that judge a new line; a line that stays is not asked

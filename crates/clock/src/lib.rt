@@ -293,8 +293,8 @@ impl Clock {
             refusal::MONOTONIC_SET_AND_RATE,
         );
         let present = self.line.rate;
-        let wide = request.step_too_wide(present);
-        next(r, started & wide, refusal::RATE_STEP)
+        let wide = arguments::is_wide_step(present, request.rate);
+        next(r, started & (rate & wide), refusal::RATE_STEP)
     }
 
     // The rest of an update that rules 1 to 11 and 22 let pass: the new line, and rules 12 to 14.

@@ -8,14 +8,14 @@ use lib.Signed.{_≤ℤ_}
 use lib.Dec.{T, eqb}
 use Rattle.tables.proofs.Tests.{fails-second}
 use Rattle.line.specs.Numbers.{outside}
-use Rattle.line.specs.Line.{turned}
 use Rattle.line.specs.declared.Line.{Line}
+use Rattle.line.proofs.Laws.{turned-rate}
 use Rattle.line.proofs.Linear.{≤ℤ-trans, lin-≡, minus-lin}
 use Rattle.clock.specs.Numbers.{stepOutside}
 use Rattle.clock.specs.Clock.{isRunning}
 use Rattle.clock.specs.Taken.{isClock, NOT_A_CLOCK}
 use Rattle.clock.specs.Creation.{created}
-use Rattle.clock.specs.Update.{hasSynthetic, hasRate, stepTooWide, point, effect, newLine, updated}
+use Rattle.clock.specs.Update.{hasSynthetic, hasRate, point, effect, newLine, updated}
 use Rattle.clock.specs.Calls.{Call, update, ask, callTable, after}
 use Rattle.clock.specs.declared.Clock.{Clock}
 use Rattle.clock.proofs.Values.{running-line, above-backstop}
@@ -65,20 +65,20 @@ no-step a = subst⁻¹ (λ z. T (not (stepOutside z))) (lin-≡ (a -ℤ a) (pos 
 -- the new rate is the flagged one or the old one
 effect-steps : (s a : Bool) (l : Line) (P S new : ℤ) → T (not (a && stepOutside (new -ℤ l .rate))) →
     T (not (stepOutside (effect s a l P S new .rate -ℤ l .rate)))
-unfolding effect turned
+unfolding effect
 effect-steps true false l P S new t = no-step (l .rate)
-effect-steps false true l P S new t = t
+effect-steps false true l P S new t = rw (turned-rate l P new) t
 effect-steps true true l P S new t = t
 effect-steps false false l P S new t = no-step (l .rate)
 
 pub rate-steps : RateSteps
-unfolding after updated newLine stepTooWide
+unfolding after updated newLine
 rate-steps c (ask q) s = no-step (c .line .rate)
 rate-steps c (update u now) s = either-way (λ b d. T (not (stepOutside (d .line .rate -ℤ c .line .rate)))) c u now
     (λ t. subst⁻¹ (λ (l : Line). T (not (stepOutside (effect (hasSynthetic u) (hasRate u) l (point u now) (u .synthetic) (u .rate) .rate -ℤ c .line .rate))))
     (running-line c s)
     (effect-steps (hasSynthetic u) (hasRate u) (c .line) (point u now) (u .synthetic) (u .rate)
-    (fails-second (isRunning c) (stepTooWide u (c .line .rate)) s (passed-rows c u now t .row22))))
+    (fails-second (isRunning c) (hasRate u && stepOutside (u .rate -ℤ c .line .rate)) s (passed-rows c u now t .row22))))
     (no-step (c .line .rate))
 
 pub reading-above : (c : Clock) (v t : ℤ) → Known c v t → c .backstop ≤ℤ v

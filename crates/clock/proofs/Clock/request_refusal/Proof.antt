@@ -11,15 +11,19 @@ use borrow.Author.Needs.{needs}
 use Rattle.clock.proofs.Clock.request_refusal.Statement.{statement}
 use Rattle.clock.proofs.Clock.request_refusal.Tie as tie
 
--- the present rate as the machine holds it
-rate-back : (s : tie.Start) → toZ w32 (ofZ w32 (s .args .self .line .rate)) ≡ s .args .self .line .rate
-rate-back s = search needs
+-- the two rates as the machine holds them
+module _ (s : tie.Start) where
+  present-back : toZ w32 (ofZ w32 (s .args .self .line .rate)) ≡ s .args .self .line .rate
+  present-back = search needs
+
+  rate-back : toZ w32 (ofZ w32 (s .args .request .rate)) ≡ s .args .request .rate
+  rate-back = search needs
 
 returns : tie.Need-returns
 unfolding guarded requestTable timeTable
 returns c =
     let step = c .before in
-    let row11 = step .before .before in
+    let row11 = step .before .before .before in
     let row10 = row11 .before in
     let row9 = row10 .before in
     let row8 = row9 .before in
@@ -56,7 +60,7 @@ returns c =
     (simp (continuous .has2 .ensures, flags .flags .ensures)))
     (simp (continuous .has2 .ensures, flags .flags .ensures)))
     (simp (monotonic .has .ensures, flags .flags .ensures)))
-    (simp (step .step-too-wide .ensures, rate-back s))
+    (simp (flags .flags .ensures, step .is-wide-step .ensures, present-back s, rate-back s))
     ∙ walk-first (guarded (s .args .self) (requestTable (s .args .self) (s .args .request) (s .args .now))) tt
 
 pub request-refusal-spec : {M : Type 1} → statement M
