@@ -26,7 +26,7 @@ extern "C" {
 
 /* The version of the boundary that this header declares. It goes up with every change of a struct, a function or a
  * number that callers were built with, and with every new refusal. */
-#define CEMENTOAD_ABI 2
+#define CEMENTOAD_ABI 3
 
 /* The archive's version. Where it differs from CEMENTOAD_ABI, this header is too old or too new for the archive, and
  * nothing else of it may be called. */
@@ -121,12 +121,17 @@ static inline bool cementoad_is_invalid_args(uint8_t refusal)
 
 /* ---- structs. Bytes between the fields may hold anything: compare and store structs field by field. */
 
-/* A line through (reference, synthetic) that gains 1,000,000 + rate millionths of a nanosecond in each nanosecond. */
+/* A line. At reference it stands at synthetic nanoseconds and remainder millionths of a nanosecond; in each nanosecond
+ * it gains 1,000,000 + rate millionths. Its value at a time is where it stands then, rounded down to a whole
+ * nanosecond, also before reference. */
 struct cementoad_line {
     /* The reference time at which the line begins, in nanoseconds. */
     int64_t reference;
     /* Its value there, in nanoseconds. */
     int64_t synthetic;
+    /* How far above that it stands there, in millionths of a nanosecond, 0 to 999,999. It is 0 at a start and where a
+     * value is set; a rate alone takes it, as it takes the value, from where the old line stands. */
+    uint32_t remainder;
     /* The rate adjustment, in parts per million. */
     int32_t rate;
 };
@@ -134,8 +139,8 @@ struct cementoad_line {
 /* A clock. Take it from cementoad_create and cementoad_update, and hand it on as it is. Each call on a clock first
  * tests what it is handed, and is refused with CEMENTOAD_NOT_A_CLOCK unless creation would take the word and the
  * backstop at the latest time, and
- *   - started is 1, the line's reference and synthetic lie in 0..END, its rate lies in -1000..1000, and its value at
- *     the latest time is not below the backstop; or
+ *   - started is 1, the line's reference and synthetic lie in 0..END, its remainder in 0..999,999 and its rate in
+ *     -1000..1000, and its value at the latest time is not below the backstop; or
  *   - started is 0, auto start is not set, and line, error and generation are as creation leaves them.
  * So zeros are no clock. Of a made-up clock that passes nothing is promised but this: each call ends and answers by
  * the same rules, what an update hands back passes again, readings lie in 0..END and not under the backstop, and a

@@ -20,6 +20,7 @@ static void structs(void)
     STRUCT(line);
     FIELD(line, reference);
     FIELD(line, synthetic);
+    FIELD(line, remainder);
     FIELD(line, rate);
     STRUCT(clock);
     FIELD(clock, line);

@@ -2,7 +2,7 @@
 use mathlib.Core.Bool.{true}
 use mathlib.Core.Path.{_≡_, refl}
 use Rattle.line.specs.Numbers.{outside}
-use Rattle.line.specs.Line.{valueAt, turned, isZeros, bounded, reaches}
+use Rattle.line.specs.Line.{exactAt, valueAt, remainderAt, turned, isZeros, bounded, reaches}
 use Rattle.clock.specs.Numbers.{timeOutside, rateOutside, stepOutside}
 use Rattle.clock.specs.Clock.{oldLine, timeTable}
 use Rattle.clock.specs.Creation.{creationTable, creationRefusal, created, creating}
@@ -22,5 +22,5 @@ use Rattle.cases.specs.Case.{all}
 use Rattle.cases.specs.Table.{table}
 
 pub cases-settled : all table ≡ true
-unfolding isZeros bounded reaches drawable mayRun asCreated isClock guarded outside timeOutside rateOutside stepOutside valueAt turned oldLine timeTable creationTable creationRefusal created creating clockValue readingTable reading wordWrong valuesOutside rateTooWide point effect newLine requestTable newLineTable updateTable nextGeneration updated updating detailsTable detailsOf detailing refusalOf accepted after idealAt historyOf rateBefore changed noted number digits row bytesOf field packed fields widths slipLength padding layout headed valuesIn headerTable fieldsTable frontTable slipTable readingSlip valuesOf slipOf writingTable writing
+unfolding isZeros bounded reaches drawable mayRun asCreated isClock guarded outside timeOutside rateOutside stepOutside exactAt valueAt remainderAt turned oldLine timeTable creationTable creationRefusal created creating clockValue readingTable reading wordWrong valuesOutside rateTooWide point effect newLine requestTable newLineTable updateTable nextGeneration updated updating detailsTable detailsOf detailing refusalOf accepted after idealAt historyOf rateBefore changed noted number digits row bytesOf field packed fields widths slipLength padding layout headed valuesIn headerTable fieldsTable frontTable slipTable readingSlip valuesOf slipOf writingTable writing
 cases-settled = refl

@@ -19,7 +19,7 @@ use slip::Written;
 
 // The version of the boundary: one more with each change of a struct, a function or a number that callers were built
 // with, and with each new refusal.
-pub const ABI: u32 = 2;
+pub const ABI: u32 = 3;
 
 // A new clock. A refused creation gives zeros, which are no clock.
 #[repr(C)]

@@ -56,7 +56,7 @@ module _ (c : Clock) (u : Request) (now : ℤ) (t : T (accepted c (update u now)
   new-drawable =
       let v = updates-valid in
       let b = new-begins c u now v (point-in-range u (rows .row5) now (in-range now (rows .row1))) (rate-permitted u (rows .row6)) in
-      record { reference = b .reference; synthetic = passed-in-range c u now v (rows .row12); rate = b .rate }
+      record { reference = b .reference; synthetic = passed-in-range c u now v (rows .row12); remainder = b .remainder; rate = b .rate }
 
   -- the new line is at least b at now if it is where it replaces the old one, and if the old one is where that stays
   pub new-at-least : (b : ℤ) → (T (replaces u) → b ≤ℤ valueAt (newLine c u now) now) →

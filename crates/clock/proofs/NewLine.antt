@@ -3,14 +3,15 @@
 use mathlib.Core.Bool.{Bool, true, false, not, cond, _&&_, _||_}
 use mathlib.Core.List.{List, [], _∷_}
 use mathlib.Core.Path.{_≡_, refl, sym, ap, subst⁻¹}
-use lib.Dec.{T}
+use lib.Dec.{T, lit<}
+use Prim.Native.Nat.{_<_}
 use lib.IntN.{ℤ}
 use lib.Signed.{ltZ}
 use Rattle.tables.specs.Tables.{Row, _when_, first}
 use mir.Facts.{or-no}
 use Rattle.tables.proofs.Tests.{fails-second, by-cases}
 use Rattle.tables.proofs.Tables.{passed, Alike, first-alike}
-use Rattle.line.specs.Numbers.{outside}
+use Rattle.line.specs.Numbers.{million, outside}
 use Rattle.line.specs.Line.{line, valueAt, turned, Computable}
 use Rattle.line.specs.Value.{placed, isUnder, isOver, isLess, held, isBeyond, lineOr}
 use Rattle.line.specs.declared.Line.{Line}
@@ -18,7 +19,7 @@ use Rattle.line.specs.declared.Redrawn.{Redrawn}
 use Rattle.line.specs.declared.Redrawn.the-variants.{Drawn}
 use Rattle.line.proofs.Placed.{drawn-in, under-law, over-law, less-law, beyond-law, line-or-keeps}
 use Rattle.line.proofs.Linear.{≤ℤ-trans}
-use Rattle.line.proofs.Laws.{turned-reference, turned-rate}
+use Rattle.line.proofs.Laws.{turned-reference, turned-remainder, turned-rate}
 use Rattle.clock.specs.Numbers.{END, timeOutside}
 use Rattle.clock.specs.Clock.{monotonic, isRunning, oldLine, timeTable, InRange, Permitted, Drawable, Valid}
 use Rattle.clock.specs.Update.{hasSynthetic, hasRate, replaces, valuesOutside, rateTooWide, point, effect, newLine, requestTable, newLineTable, updateTable}
@@ -53,30 +54,11 @@ module _ (c : Clock) (u : Request) (now : ℤ) (e : first (guarded c (requestTab
 
 -- ---- the effect table
 
--- where a new line begins, and its rate
-pub record Begins (l : Line) : Type 0 where
-  pub reference : InRange (l .reference)
-  pub rate : Permitted (l .rate)
-
-pub effect-begins : (s a : Bool) (T₀ : Line) (P S new : ℤ) → Drawable T₀ → InRange P → (T a → Permitted new) → Begins (effect s a T₀ P S new)
-unfolding effect
-effect-begins true false T₀ P S new o p r = record { reference = p; rate = o .rate }
-effect-begins true true T₀ P S new o p r = record { reference = p; rate = r tt }
-effect-begins false true T₀ P S new o p r = record { reference = rw (turned-reference T₀ P new) p; rate = rw (turned-rate T₀ P new) (r tt) }
-effect-begins false false T₀ P S new o p r = record { reference = o .reference; rate = o .rate }
-
--- where the line stays, nothing is drawn
-pub effect-kept : (s a : Bool) (T₀ : Line) (P S new : ℤ) → T (not (s || a)) → effect s a T₀ P S new ≡ T₀
-unfolding effect
-effect-kept true a T₀ P S new n = absurd n
-effect-kept false true T₀ P S new n = absurd n
-effect-kept false false T₀ P S new n = refl
-
 -- a value in range is drawn
-pub set-drawn : (a : Bool) (T₀ : Line) (P S new : ℤ) → InRange S → Drawn (line P S (cond a new (T₀ .rate))) ≡ held (effect true a T₀ P S new)
+pub set-drawn : (a : Bool) (T₀ : Line) (P S new : ℤ) → InRange S → Drawn (line P S 0 (cond a new (T₀ .rate))) ≡ held (effect true a T₀ P S new)
 unfolding effect
-set-drawn true T₀ P S new i = sym (drawn-in (line P S new) (range-storable i))
-set-drawn false T₀ P S new i = sym (drawn-in (line P S (T₀ .rate)) (range-storable i))
+set-drawn true T₀ P S new i = sym (drawn-in (line P S 0 new) (range-storable i))
+set-drawn false T₀ P S new i = sym (drawn-in (line P S 0 (T₀ .rate)) (range-storable i))
 
 pub turned-drawn : (T₀ : Line) (P S new : ℤ) → held (turned T₀ P new) ≡ held (effect false true T₀ P S new)
 unfolding effect
@@ -85,6 +67,30 @@ turned-drawn T₀ P S new = refl
 pub kept-drawn : (T₀ : Line) (P S new : ℤ) → Drawable T₀ → Drawn T₀ ≡ held (effect false false T₀ P S new)
 unfolding effect
 kept-drawn T₀ P S new o = sym (drawn-in T₀ (range-storable (o .synthetic)))
+
+-- a new line, but for its S0
+pub record Begins (l : Line) : Type 0 where
+  pub reference : InRange (l .reference)
+  pub remainder : l .remainder < million
+  pub rate : Permitted (l .rate)
+
+pub effect-begins : (s a : Bool) (T₀ : Line) (P S new : ℤ) → Drawable T₀ → InRange P → (T a → Permitted new) → Begins (effect s a T₀ P S new)
+unfolding effect
+effect-begins true false T₀ P S new o p r = record { reference = p; remainder = lit< tt; rate = o .rate }
+effect-begins true true T₀ P S new o p r = record { reference = p; remainder = lit< tt; rate = r tt }
+effect-begins false true T₀ P S new o p r = record {
+  reference = rw (turned-reference T₀ P new) p;
+  remainder = turned-remainder T₀ P new;
+  rate = rw (turned-rate T₀ P new) (r tt);
+}
+effect-begins false false T₀ P S new o p r = record { reference = o .reference; remainder = o .remainder; rate = o .rate }
+
+-- where the line stays, nothing is drawn
+pub effect-kept : (s a : Bool) (T₀ : Line) (P S new : ℤ) → T (not (s || a)) → effect s a T₀ P S new ≡ T₀
+unfolding effect
+effect-kept true a T₀ P S new n = absurd n
+effect-kept false true T₀ P S new n = absurd n
+effect-kept false false T₀ P S new n = refl
 
 -- ---- the new line
 
@@ -103,8 +109,9 @@ module _ (c : Clock) (u : Request) (now : ℤ) where
   -- the line whose value is found
   pub found-computable : Valid c → Begins new → Computable (lineOr (held new) (oldLine c))
   found-computable v b =
-      line-or-keeps Computable (new .reference) (new .synthetic) (new .rate) (oldLine c)
-      (λ h. record { reference = b .reference .low; synthetic = h .low; rate = rises (b .rate) }) (computable (old-drawable c v))
+      line-or-keeps Computable (new .reference) (new .synthetic) (new .remainder) (new .rate) (oldLine c)
+      (λ h. record { reference = b .reference .low; synthetic = h .low; remainder = b .remainder; rate = rises (b .rate) })
+      (computable (old-drawable c v))
 
   pub found-new : InRange (new .synthetic) → lineOr (held new) (oldLine c) ≡ new
   found-new i = ap (λ (r : Redrawn). lineOr r (oldLine c)) (drawn-in new (range-storable i))
@@ -149,7 +156,7 @@ module _ (c : Clock) (u : Request) (now : ℤ) (v : Valid c) where
 
   beyond-is : isBeyond (held drawn) END ≡ timeOutside (drawn .synthetic)
   unfolding timeOutside outside
-  beyond-is = beyond-law (drawn .reference) (drawn .synthetic) (drawn .rate) END end-storable
+  beyond-is = beyond-law (drawn .reference) (drawn .synthetic) (drawn .remainder) (drawn .rate) END end-storable
 
   row12 : (isBeyond (held drawn) END || isOver (placed (valueAt found now)) END) ≡ (timeOutside (drawn .synthetic) || ltZ END value)
   row12 = rw beyond-is (or-agree (timeOutside (drawn .synthetic)) (isOver (placed (valueAt found now)) END) (ltZ END value)

@@ -5,15 +5,15 @@ use Prim.Native.Nat.{ℕ, zero, suc, _≤_}
 use native.Mathlib.Omega.{arith}
 use lib.IntN.{ℤ, pos, negℤ}
 use lib.Signed.{ltZ, leZ, _≤ℤ_}
-use lib.Dec.{T, eqb, leb, leb→le, eqb→eq}
+use lib.Dec.{T, eqb, leb, ltb, leb→le, eqb→eq, ltb→lt, lt→ltb}
 use mir.Facts.{and-yes, yes-and}
 use Rattle.tables.proofs.Tests.{is-false, if-true, if-false, by-cases}
 use Rattle.tables.proofs.Tables.{test, passed, nothing-told}
 use Rattle.line.specs.Line.{line, valueAt, isZeros, bounded, reaches}
 use Rattle.line.specs.declared.Line.{Line}
 use Rattle.line.proofs.Linear.{≤ℤ-trans}
-use Rattle.line.proofs.Laws.{value-identity, reaches-early, zeros-are}
-use Rattle.line.specs.Numbers.{outside}
+use Rattle.line.proofs.Laws.{four, value-identity, reaches-early, zeros-are}
+use Rattle.line.specs.Numbers.{million, outside}
 use Rattle.clock.specs.Numbers.{END, MAX_RATE, timeOutside, rateOutside}
 use Rattle.clock.specs.Clock.{autoStart, isRunning, byteOf, identity, Drawable, Valid}
 use Rattle.clock.specs.Creation.{creationTable, creationRefusal, created, UNKNOWN_ERROR, FIRST_GENERATION}
@@ -50,13 +50,12 @@ unfolding drawable bounded timeOutside rateOutside
 drawable-line l t =
     let reference = not (timeOutside (l .reference)) in
     let synthetic = not (timeOutside (l .synthetic)) in
-    let rate = not (rateOutside (l .rate)) in
-    let front = and-yes (reference && synthetic) rate t in
-    let both = and-yes reference synthetic (front .0) in
+    let parts = four reference synthetic (ltb (l .remainder) million) (not (rateOutside (l .rate))) t in
     record {
-      reference = in-range (l .reference) (both .0);
-      synthetic = in-range (l .synthetic) (both .1);
-      rate = permitted (l .rate) (front .1);
+      reference = in-range (l .reference) (parts .0);
+      synthetic = in-range (l .synthetic) (parts .1);
+      remainder = ltb→lt (l .remainder) million (parts .2);
+      rate = permitted (l .rate) (parts .3);
     }
 
 pub line-drawable : (l : Line) → Drawable l → T (drawable l)
@@ -64,21 +63,16 @@ unfolding drawable bounded timeOutside rateOutside
 line-drawable l d =
     let reference = not (timeOutside (l .reference)) in
     let synthetic = not (timeOutside (l .synthetic)) in
-    yes-and (reference && synthetic) (not (rateOutside (l .rate)))
+    let remainder = ltb (l .remainder) million in
+    yes-and (reference && synthetic && remainder) (not (rateOutside (l .rate)))
+    (yes-and (reference && synthetic) remainder
     (yes-and reference synthetic
     (inside (pos 0) END (l .reference) (d .reference .low) (d .reference .high))
     (inside (pos 0) END (l .synthetic) (d .synthetic .low) (d .synthetic .high)))
+    (lt→ltb (l .remainder) million (d .remainder)))
     (inside (negℤ MAX_RATE) MAX_RATE (l .rate) (d .rate .low) (d .rate .high))
 
 -- ---- what is taken for a clock
-
--- the parts of a test of four
-four : (a b c d : Bool) → T (a && b && c && d) → T a × T b × T c × T d
-four a b c d t =
-    let abcd = and-yes (a && b && c) d t in
-    let abc = and-yes (a && b) c (abcd .0) in
-    let ab = and-yes a b (abc .0) in
-    (ab .0, ab .1, abc .1, abcd .1)
 
 module _ (c : Clock) where
   abbrev accepts : Bool

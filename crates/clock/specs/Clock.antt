@@ -2,11 +2,12 @@
 -- rest on.
 use mathlib.Core.Bool.{Bool, cond}
 use mathlib.Core.List.{List, [], _∷_}
-use Prim.Native.Nat.{ℕ}
+use Prim.Native.Nat.{ℕ, _<_}
 use lib.IntN.{ℤ, pos, negℤ}
 use lib.Signed.{ltZ, _≤ℤ_}
 use lib.Dec.{T, eqb}
 use Rattle.tables.specs.Tables.{Row, _when_}
+use Rattle.line.specs.Numbers.{million}
 use Rattle.line.specs.Line.{line, valueAt}
 use Rattle.line.specs.declared.Line.{Line}
 use Rattle.clock.specs.Numbers.{END, MAX_RATE, timeOutside, bit}
@@ -30,9 +31,9 @@ byteOf b = cond b 1 0
 abbrev pub isRunning : Clock → Bool
 isRunning c = eqb (c .started) 1
 
--- the line that auto start gives at once (01, 'Creation')
+-- the line that auto start gives at once (01, 'Creation'), with no remainder
 abbrev pub identity : Line
-identity = line (pos 0) (pos 0) (pos 0)
+identity = line (pos 0) (pos 0) 0 (pos 0)
 
 -- the old line of an update, T of the effect table; before the start the identity line, whose rate is 0 (01, 'The
 -- update word and its effect')
@@ -62,6 +63,7 @@ pub record Permitted (a : ℤ) : Type 0 where
 pub record Drawable (l : Line) : Type 0 where
   pub reference : InRange (l .reference)
   pub synthetic : InRange (l .synthetic)
+  pub remainder : l .remainder < million
   pub rate : Permitted (l .rate)
 
 -- it holds of everything that is taken for a clock (`ClocksValid` in demands/specs)

@@ -12,7 +12,7 @@ use Rattle.clock.specs.Clock.{autoStart, isRunning}
 use Rattle.clock.specs.Creation.{creationRefusal, UNKNOWN_ERROR, FIRST_GENERATION}
 use Rattle.clock.specs.declared.Clock.{Clock}
 
--- reference and synthetic in 0..END, the rate in -1000..1000
+-- reference and synthetic in 0..END, the remainder in 0..999,999, the rate in -1000..1000
 unfoldable pub drawable : Line → Bool
 drawable l = bounded l END MAX_RATE
 

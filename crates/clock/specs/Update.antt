@@ -69,11 +69,12 @@ point u now = cond (hasReference u) (u .reference) now
 abbrev pub replaces : Request → Bool
 replaces u = hasSynthetic u || hasRate u
 
--- the effect table: synthetic flagged, rate flagged; T, P, S and the new a. `turned T P a` is (P, T(P), a)
+-- the effect table: synthetic flagged, rate flagged; T, P, S and the new a. A value set has no remainder, and
+-- `turned T P a` has T's exact value at P (02, R-7)
 unfoldable pub effect : Bool → Bool → Line → ℤ → ℤ → ℤ → Line
-effect true false T P S a = line P S (T .rate)
+effect true false T P S a = line P S 0 (T .rate)
 effect false true T P S a = turned T P a
-effect true true T P S a = line P S a
+effect true true T P S a = line P S 0 a
 effect false false T P S a = T
 
 -- before the start T is the identity line

@@ -142,6 +142,7 @@ impl Clock {
         Line {
             reference: 0,
             synthetic: 0,
+            remainder: 0,
             rate: 0,
         }
     }
@@ -483,6 +484,7 @@ fn new_line(request: Request, old: Line, point: i64) -> Redrawn
         Redrawn::Drawn(Line {
             reference: point,
             synthetic: request.synthetic,
+            remainder: 0,
             rate,
         })
     } else if flags.rate {

@@ -6,9 +6,9 @@ use lib.Signed.{_≤ℤ_, ≤ℤ-refl}
 use lib.Dec.{T}
 use mir.Facts.{yes-and}
 use Rattle.tables.proofs.Tests.{fails-second}
-use Rattle.line.specs.Line.{valueAt}
+use Rattle.line.specs.Line.{valueAt, exactAt}
 use Rattle.line.specs.declared.Line.{Line}
-use Rattle.line.proofs.Laws.{turned-value}
+use Rattle.line.proofs.Laws.{turned-agrees}
 use Rattle.clock.specs.Clock.{isRunning, monotonic, continuous, oldLine}
 use Rattle.clock.specs.Update.{hasSynthetic, hasReference, hasRate, replaces, point, effect, newLine}
 use Rattle.clock.specs.Calls.{update, accepted}
@@ -18,11 +18,11 @@ use Rattle.clock.proofs.Ranges.{not-less}
 use Rattle.clock.proofs.Rows.{passed-rows}
 use Rattle.clock.proofs.Clocks.{new-at-least}
 
--- a line turned at now has its old value there
-effect-turned : (s a : Bool) (l : Line) (S new now : ℤ) → T (not s) → valueAt (effect s a l now S new) now ≡ valueAt l now
+-- a line turned at now is there where the old one was
+effect-turned : (s a : Bool) (l : Line) (S new now : ℤ) → T (not s) → exactAt (effect s a l now S new) now ≡ exactAt l now
 unfolding effect
 effect-turned true a l S new now n = absurd n
-effect-turned false true l S new now n = turned-value l now new
+effect-turned false true l S new now n = turned-agrees l now new
 effect-turned false false l S new now n = refl
 
 module _ (c : Clock) (u : Request) (now : ℤ) (t : T (accepted c (update u now))) where
@@ -36,12 +36,12 @@ module _ (c : Clock) (u : Request) (now : ℤ) (t : T (accepted c (update u now)
           not-less _ (valueAt (oldLine c) now) (fails-second (monotonic (c .word) && isRunning c) _ running (fails-second (replaces u) _ r (passed-rows c u now t .row14)))
 
   -- a running continuous clock is at most turned, and that at now
-  pub new-agrees : T (continuous (c .word)) → T (isRunning c) → valueAt (newLine c u now) now ≡ valueAt (oldLine c) now
+  pub new-agrees : T (continuous (c .word)) → T (isRunning c) → exactAt (newLine c u now) now ≡ exactAt (oldLine c) now
   unfolding newLine point
   new-agrees k s = go (hasReference u) (fails-second (continuous (c .word)) (hasReference u) k (passed-rows c u now t .row9))
     where
       go : (p : Bool) → T (not p) →
-          valueAt (effect (hasSynthetic u) (hasRate u) (oldLine c) (cond p (u .reference) now) (u .synthetic) (u .rate)) now ≡ valueAt (oldLine c) now
+          exactAt (effect (hasSynthetic u) (hasRate u) (oldLine c) (cond p (u .reference) now) (u .synthetic) (u .rate)) now ≡ exactAt (oldLine c) now
       go true n = absurd n
       go false n =
           effect-turned (hasSynthetic u) (hasRate u) (oldLine c) (u .synthetic) (u .rate) now

@@ -7,12 +7,13 @@ use lib.IntN.{ℤ}
 use lib.Signed.{_≤ℤ_, ≤ℤ-refl}
 use lib.Dec.{T}
 use Rattle.tables.proofs.Tests.{by-cases}
-use Rattle.line.specs.Line.{valueAt}
+use Rattle.line.specs.Line.{exactAt}
 use Rattle.line.specs.declared.Line.{Line}
 use Rattle.line.proofs.Linear.{≤ℤ-trans}
+use Rattle.line.proofs.Laws.{value-same}
 use Rattle.clock.specs.Clock.{isRunning, monotonic, Valid}
 use Rattle.clock.specs.Taken.{isClock}
-use Rattle.clock.specs.Update.{updated}
+use Rattle.clock.specs.Update.{newLine, updated}
 use Rattle.clock.specs.Calls.{Call, update, ask, accepted, after, afterAll, given}
 use Rattle.clock.specs.declared.Clock.{Clock}
 use Rattle.clock.specs.declared.Request.{Request}
@@ -22,7 +23,7 @@ use Rattle.clock.proofs.Taken.{taken-valid}
 use Rattle.clock.proofs.Rows.{either-way}
 use Rattle.clock.proofs.Clocks.{not-early, updated-started, updated-clock, after-clock}
 use Rattle.demands.specs.Kept.{Kept}
-use Rattle.demands.specs.Demand2.{NotBelow, timeOf, valueOf, moment, times, readings, From, NeverFalls, Agrees}
+use Rattle.demands.specs.Demand2.{NotBelow, timeOf, valueOf, moment, times, readings, From, NeverFalls, AgreeAt, Agrees}
 use Rattle.demands.specs.Demand2.{AsWritten, Demand2·update, Demand2·backstop, Demand2·monotonic, Demand2·continuous}
 use Rattle.demands.proofs.Rows.{Known, of-given}
 use Rattle.demands.proofs.AcceptedUpdate.{new-not-back, new-agrees}
@@ -135,11 +136,15 @@ demand2·monotonic word backstop now c e m before stretch h =
 
 -- ---- a continuous clock that runs
 
+agree-at : (t : ℤ) (old new : Line) → exactAt new t ≡ exactAt old t → AgreeAt t old new
+agree-at t old new e = record { exactly = e; inValue = value-same new old t e }
+
 pub agrees : (c : Clock) (k : Call) → Agrees c k
 unfolding updated
 agrees c (ask q) = tt
-agrees c (update u now) = λ s k. either-way (λ b d. valueAt (d .line) now ≡ valueAt (c .line) now) c u now
-    (λ t. new-agrees c u now t k s ∙ ap (λ (l : Line). valueAt l now) (running-line c s)) refl
+agrees c (update u now) = λ s k. either-way (λ b d. AgreeAt now (c .line) (d .line)) c u now
+    (λ t. agree-at now (c .line) (newLine c u now) (new-agrees c u now t k s ∙ ap (λ (l : Line). exactAt l now) (running-line c s)))
+    (agree-at now (c .line) (c .line) refl)
 
 pub demand2·continuous : Demand2·continuous
 demand2·continuous word backstop now c e calls = of-any Agrees agrees c calls

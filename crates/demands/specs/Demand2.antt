@@ -6,7 +6,8 @@ use Prim.Native.Nat.{ℕ}
 use lib.IntN.{ℤ}
 use lib.Signed.{_≤ℤ_}
 use lib.Dec.{T}
-use Rattle.line.specs.Line.{valueAt}
+use Rattle.line.specs.Line.{exactAt, valueAt}
+use Rattle.line.specs.declared.Line.{Line}
 use Rattle.clock.specs.Clock.{isRunning, monotonic, continuous}
 use Rattle.clock.specs.Update.{updateTable, updating, SameRequest}
 use Rattle.clock.specs.Calls.{askTable, Call, update, ask, accepted, after, afterAll, Given, nothing, _at_, given}
@@ -76,11 +77,17 @@ Demand2·monotonic = (word : ℕ) (backstop now : ℤ) (c : Clock) → Gave word
     (before stretch : List Call) →
     NeverFalls (times (afterAll c before) stretch) → NeverFalls (readings (afterAll c before) stretch)
 
--- ---- a continuous clock that runs: an update leaves it the value that it had
+-- ---- a continuous clock that runs: at an update's now the new line is where the old one was; `Demand2·ideal` (Demand3)
+-- says it of the ideal lines
+
+-- to the millionth (02, R-7), and so in value
+pub record AgreeAt (t : ℤ) (old new : Line) : Type 0 where
+  pub exactly : exactAt new t ≡ exactAt old t
+  pub inValue : valueAt new t ≡ valueAt old t
 
 abbrev pub Agrees : Clock → Call → Type 0
 Agrees c (update u now) = T (isRunning c) → T (continuous (c .word)) →
-    valueAt (after c (update u now) .line) now ≡ valueAt (c .line) now
+    AgreeAt now (c .line) (after c (update u now) .line)
 Agrees c (ask q) = Unit {0}
 
 abbrev pub Demand2·continuous : Type 0

@@ -1,4 +1,4 @@
--- A quotient by a million, the distance taken apart.
+-- A quotient by a million and its rest, the distance taken apart.
 use Prim.Native.Nat.{ℕ, _+_, _*_, _/_, _%_, _≤_}
 use native.Mathlib.Nat.{mul-le-mul, add-mul, mul-assoc, mul-comm, div-add-mod', add-assoc}
 use native.Mathlib.Omega.{arith}
@@ -17,6 +17,9 @@ module _ (d v carry : ℕ) where
 
   pub scaled-by-parts : d / million * v + (d % million * v + carry) / million ≡ (d * v + carry) / million
   scaled-by-parts = omega (arith, split)
+
+  pub rest-by-parts : (d % million * v + carry) % million ≡ (d * v + carry) % million
+  rest-by-parts = omega (arith, split)
 
 -- the two products fit
 pub whole-fits : (d v : ℕ) → d ≤ signedEnd → v ≤ steepest → d / million * v ≤ signedEnd / million * steepest

@@ -7,7 +7,7 @@ use lib.IntN.{ℤ, pos, negsuc, negℤ, subℕ, _+ℤ_, _-ℤ_, _*ℤ_}
 use lib.Signed.{leZ, ltZ, _≤ℤ_}
 use borrow.Author.Tests.{ltb-true, ltb-false, le-leb, lt-leb}
 use lib.Dec.{T, leb, ltb, leb→le, le→leb, ltb→lt, nltb→le}
-use Rattle.line.specs.Numbers.{million, floorDiv}
+use Rattle.line.specs.Numbers.{million, floorDiv, floorMod}
 
 abbrev pub up : ℤ → ℕ
 up (pos n) = n
@@ -129,3 +129,8 @@ pub record Floors (x v : ℤ) : Type 0 where
 pub floor-lin : (x : ℤ) → Floors x (floorDiv x million)
 floor-lin (pos n) = record { below = omega arith; above = omega arith }
 floor-lin (negsuc n) = record { below = omega arith; above = omega arith }
+
+-- floor and rest together are the number
+pub rest-lin : (x : ℤ) → up (floorDiv x million) * million + floorMod x million + dn x ≡ up x + dn (floorDiv x million) * million
+rest-lin (pos n) = omega arith
+rest-lin (negsuc n) = omega arith

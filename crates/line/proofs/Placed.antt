@@ -1,6 +1,7 @@
 -- A whole number as an i64 sees it: each test of the code on it is the test of the number.
 use mathlib.Core.Bool.{Bool, true, false, cond, _||_}
 use mathlib.Core.Path.{_≡_, refl, sym, ap}
+use Prim.Native.Nat.{ℕ}
 use native.Mathlib.Omega.{arith}
 use native.Mathlib.Nat.{lt-of-le-of-lt, le-of-lt}
 use lib.Dec.{ltb, leb→le, le→leb}
@@ -64,38 +65,39 @@ pub drawn-in : (l : Line) → Storable (l .synthetic) → held l ≡ Drawn l
 unfolding held
 drawn-in l i = rw (placed-in (l .synthetic) i)
 
--- the line through (P, z), by how z is seen
-abbrev pub lineOf : ℤ → ℤ → Value → Redrawn
-lineOf P a Below = Outside
-lineOf P a (Within x) = Drawn (line P x a)
-lineOf P a Above = Outside
+-- the line through z at P, by how z is seen
+abbrev pub lineOf : ℤ → ℕ → ℤ → Value → Redrawn
+lineOf P rem a Below = Outside
+lineOf P rem a (Within x) = Drawn (line P x rem a)
+lineOf P rem a Above = Outside
 
-pub line-of : (P a z : ℤ) → lineOf P a (placed z) ≡ held (line P z a)
+pub line-of : (P : ℤ) (rem : ℕ) (a z : ℤ) → lineOf P rem a (placed z) ≡ held (line P z rem a)
 unfolding held placed
-line-of P a (negsuc n) = refl
-line-of P a (pos n) = go (ltb signedEnd n)
+line-of P rem a (negsuc n) = refl
+line-of P rem a (pos n) = go (ltb signedEnd n)
   where
-    go : (y : Bool) → lineOf P a (cond y Above (Within (pos n))) ≡ drawnIf (cond y Above (Within (pos n))) (line P (pos n) a)
+    go : (y : Bool) → lineOf P rem a (cond y Above (Within (pos n))) ≡ drawnIf (cond y Above (Within (pos n))) (line P (pos n) rem a)
     go true = refl
     go false = refl
 
 -- S0 outside 0..E, whatever E is held
-pub beyond-law : (R S a E : ℤ) → Storable E → isBeyond (held (line R S a)) E ≡ (ltZ S (pos 0) || ltZ E S)
+pub beyond-law : (R S : ℤ) (rem : ℕ) (a E : ℤ) → Storable E → isBeyond (held (line R S rem a)) E ≡ (ltZ S (pos 0) || ltZ E S)
 unfolding held placed
-beyond-law R S a (negsuc m) i = absurd (i .low .le)
-beyond-law R (negsuc n) a (pos m) i = refl
-beyond-law R (pos n) a (pos m) i = rw (le-ltb n 0 (omega arith)) (go (ltb signedEnd n) refl)
+beyond-law R S rem a (negsuc m) i = absurd (i .low .le)
+beyond-law R (negsuc n) rem a (pos m) i = refl
+beyond-law R (pos n) rem a (pos m) i = rw (le-ltb n 0 (omega arith)) (go (ltb signedEnd n) refl)
   where
-    go : (y : Bool) → ltb signedEnd n ≡ y → isBeyond (drawnIf (cond y Above (Within (pos n))) (line R (pos n) a)) (pos m) ≡ ltb m n
+    go : (y : Bool) → ltb signedEnd n ≡ y → isBeyond (drawnIf (cond y Above (Within (pos n))) (line R (pos n) rem a)) (pos m) ≡ ltb m n
     go true e = sym (lt-ltb m n (lt-of-le-of-lt (leb→le m signedEnd (i .high .le)) (ltb-true signedEnd n e)))
     go false e = refl
 
 -- what holds of the line, if its S0 is held, and of another, holds of the one that is taken
-pub line-or-keeps : (P : Line → Type 0) (R S a : ℤ) (other : Line) → (Storable S → P (line R S a)) → P other → P (lineOr (held (line R S a)) other)
+pub line-or-keeps : (P : Line → Type 0) (R S : ℤ) (rem : ℕ) (a : ℤ) (other : Line) → (Storable S → P (line R S rem a)) → P other →
+    P (lineOr (held (line R S rem a)) other)
 unfolding held placed
-line-or-keeps P R (negsuc n) a other f p = p
-line-or-keeps P R (pos n) a other f p = go (ltb signedEnd n) refl
+line-or-keeps P R (negsuc n) rem a other f p = p
+line-or-keeps P R (pos n) rem a other f p = go (ltb signedEnd n) refl
   where
-    go : (y : Bool) → ltb signedEnd n ≡ y → P (lineOr (drawnIf (cond y Above (Within (pos n))) (line R (pos n) a)) other)
+    go : (y : Bool) → ltb signedEnd n ≡ y → P (lineOr (drawnIf (cond y Above (Within (pos n))) (line R (pos n) rem a)) other)
     go true e = p
     go false e = f (record { low = leZ-yes (le→leb 0 n (omega arith)); high = leZ-yes (le→leb n signedEnd (ltb-false signedEnd n e)) })

@@ -1,46 +1,52 @@
--- Lines: the value at a time, and the exact value in millionths.
+-- Lines: the exact value at a time, in millionths, and the value in whole nanoseconds.
 use mathlib.Core.Bool.{Bool, not, _&&_}
-use Prim.Native.Nat.{_-_}
+use Prim.Native.Nat.{ℕ, _-_, _<_}
 use lib.IntN.{ℤ, pos, negℤ, _+ℤ_, _-ℤ_, _*ℤ_}
 use lib.Signed.{leZ, _≤ℤ_}
-use Rattle.line.specs.Numbers.{million, signedEnd, floorDiv, isZero, outside}
+use lib.Dec.{eqb, ltb}
+use Rattle.line.specs.Numbers.{million, signedEnd, floorDiv, floorMod, isZero, outside}
 use Rattle.line.specs.declared.Line.{Line}
 
--- R0 is `reference`, S0 is `synthetic`, a is `rate`
-abbrev pub line : ℤ → ℤ → ℤ → Line
-line R0 S0 a = record { reference = R0; synthetic = S0; rate = a }
+-- R0 is `reference`, S0 is `synthetic`, a is `rate`; beside S0 stands a remainder in millionths (02, R-7)
+abbrev pub line : ℤ → ℤ → ℕ → ℤ → Line
+line R0 S0 rem a = record { reference = R0; synthetic = S0; remainder = rem; rate = a }
 
 -- zeros, which stand where there is no line
 abbrev pub zeroLine : Line
-zeroLine = line (pos 0) (pos 0) (pos 0)
+zeroLine = line (pos 0) (pos 0) 0 (pos 0)
 
 -- 1,000,000 + a: millionths of a nanosecond that the line gains in each nanosecond
 abbrev pub slope : ℤ → ℤ
 slope a = pos million +ℤ a
 
--- S0 + floor((t - R0) x (1,000,000 + a) / 1,000,000), of any size (01, 'The clock we sell')
-unfoldable pub valueAt : Line → ℤ → ℤ
-valueAt l t = l .synthetic +ℤ floorDiv ((t -ℤ l .reference) *ℤ slope (l .rate)) million
-
--- the same line in millionths, with no rounding; its floor in nanoseconds is the value
+-- S0 x 1,000,000 + remainder + (t - R0) x (1,000,000 + a): millionths, of any size, with no rounding (02, R-7)
 unfoldable pub exactAt : Line → ℤ → ℤ
-exactAt l t = (l .synthetic *ℤ pos million) +ℤ ((t -ℤ l .reference) *ℤ slope (l .rate))
+exactAt l t = ((l .synthetic *ℤ pos million) +ℤ pos (l .remainder)) +ℤ ((t -ℤ l .reference) *ℤ slope (l .rate))
 
--- (P, T(P), a): the line T with the rate a from its value at P on (01, 'The update word and its effect')
+-- that in whole nanoseconds, rounded towards minus infinity (01, 'The clock we sell'; 02, R-7)
+unfoldable pub valueAt : Line → ℤ → ℤ
+valueAt l t = floorDiv (exactAt l t) million
+
+-- and the millionths that are left
+unfoldable pub remainderAt : Line → ℤ → ℕ
+remainderAt l t = floorMod (exactAt l t) million
+
+-- the line T with the rate a from its exact value at P on (01, 'The update word and its effect'; 02, R-7)
 unfoldable pub turned : Line → ℤ → ℤ → Line
-turned T P a = line P (valueAt T P) a
+turned T P a = line P (valueAt T P) (remainderAt T P) a
 
 -- ---- tests
 
 -- the line is zeros
 unfoldable pub isZeros : Line → Bool
-isZeros l = isZero (l .reference) && isZero (l .synthetic) && isZero (l .rate)
+isZeros l = isZero (l .reference) && isZero (l .synthetic) && eqb (l .remainder) 0 && isZero (l .rate)
 
--- reference and synthetic in 0..end, the rate in -widest..widest
+-- reference and synthetic in 0..end, the remainder in 0..999,999, the rate in -widest..widest
 unfoldable pub bounded : Line → ℤ → ℤ → Bool
 bounded l end widest =
     not (outside (pos 0) end (l .reference))
     && not (outside (pos 0) end (l .synthetic))
+    && ltb (l .remainder) million
     && not (outside (negℤ widest) widest (l .rate))
 
 -- at t the line shows at least b; `leZ a b` is a ≤ b
@@ -58,6 +64,7 @@ pub record Rising (a : ℤ) : Type 0 where
 pub record Computable (l : Line) : Type 0 where
   pub reference : pos 0 ≤ℤ l .reference
   pub synthetic : pos 0 ≤ℤ l .synthetic
+  pub remainder : l .remainder < million
   pub rate : Rising (l .rate)
 
 -- in 0..2^63 - 1

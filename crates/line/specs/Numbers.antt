@@ -1,6 +1,6 @@
--- Whole numbers: millionths, what a signed number of 64 bits holds, the floor, ranges.
+-- Whole numbers: millionths, what a signed number of 64 bits holds, floor and rest, ranges.
 use mathlib.Core.Bool.{Bool, false, _||_}
-use Prim.Native.Nat.{ℕ, _*_, _-_, _/_, _^_}
+use Prim.Native.Nat.{ℕ, suc, _*_, _-_, _/_, _%_, _^_}
 use lib.IntN.{ℤ, pos, negsuc}
 use lib.Signed.{ltZ}
 use lib.Dec.{eqb}
@@ -21,6 +21,11 @@ signedEnd = 2 ^ 63 - 1
 abbrev pub floorDiv : ℤ → ℕ → ℤ
 floorDiv (pos n) d = pos (n / d)
 floorDiv (negsuc n) d = negsuc (n / d)
+
+-- what that leaves, in 0..d-1
+abbrev pub floorMod : ℤ → ℕ → ℕ
+floorMod (pos n) d = n % d
+floorMod (negsuc n) d = d - suc (n % d)
 
 abbrev pub isZero : ℤ → Bool
 isZero (pos n) = eqb n 0

@@ -1,12 +1,12 @@
-// Lines: values in whole nanoseconds, with no product or sum beyond 64 bits.
+// Lines: values in whole nanoseconds and the millionths beside them, with no product or sum beyond 64 bits.
 ghost use mathlib.Core.Path.{_≡_};
-ghost use Prim.Native.Nat.{_+_, _*_, _/_, _≤_, _<_};
+ghost use Prim.Native.Nat.{_+_, _*_, _/_, _%_, _≤_, _<_};
 ghost use lib.IntN.{pos};
 ghost use lib.Signed.{_≤ℤ_};
-ghost use Rattle.line.specs.Numbers.{million, signedEnd, steepest};
+ghost use Rattle.line.specs.Numbers.{million, signedEnd, steepest, floorDiv, floorMod};
 ghost use Rattle.line.specs.Line.{zeroLine, slope, valueAt, turned, isZeros, bounded, reaches, Rising, Computable, Storable};
 ghost use Rattle.line.specs.Value.{placed, held};
-ghost use Rattle.line.specs.Parts.{gained, Natural, IsLine, Counted};
+ghost use Rattle.line.specs.Parts.{exactOf, Natural, IsLine, Counted};
 
 pub mod answers;
 
@@ -16,11 +16,13 @@ const MILLION: u64 = 1_000_000;
 // The last number that an i64 holds.
 const SIGNED_END: u64 = i64::MAX as u64;
 
-// A line through (reference, synthetic) that gains 1,000,000 + rate millionths of a nanosecond in each nanosecond.
+// A line that is at synthetic nanoseconds and remainder millionths at reference, and gains 1,000,000 + rate millionths
+// in each nanosecond.
 #[repr(C)]
 pub struct Line {
     pub reference: i64,
     pub synthetic: i64,
+    pub remainder: u32,
     pub rate: i32,
 }
 
@@ -28,6 +30,7 @@ pub struct Line {
 struct Numbers {
     reference: u64,
     synthetic: u64,
+    remainder: u64,
     slope: u64,
 }
 
@@ -51,6 +54,7 @@ impl Line {
         Line {
             reference: 0,
             synthetic: 0,
+            remainder: 0,
             rate: 0,
         }
     }
@@ -61,12 +65,13 @@ impl Line {
         let Line {
             reference,
             synthetic,
+            remainder,
             rate,
         } = self;
-        (reference == 0) & (synthetic == 0) & (rate == 0)
+        (reference == 0) & (synthetic == 0) & (remainder == 0) & (rate == 0)
     }
 
-    // Whether reference and synthetic lie in 0..end, and the rate in -widest..widest.
+    // Whether reference and synthetic lie in 0..end, the remainder in 0..999,999 and the rate in -widest..widest.
     pub fn is_bounded(self, end: i64, widest: i32) -> bool
         requires { ⌜ pos 0 ≤ℤ widest ⌝ }
         ensures { λ r. ⌜ r ≡ bounded self «end» widest ⌝ }
@@ -74,10 +79,12 @@ impl Line {
         let Line {
             reference,
             synthetic,
+            remainder,
             rate,
         } = self;
         !((reference < 0) | (end < reference))
             & !((synthetic < 0) | (end < synthetic))
+            & ((remainder as u64) < MILLION)
             & !((rate < -widest) | (widest < rate))
     }
 
@@ -86,7 +93,7 @@ impl Line {
         requires { ⌜ Computable self × (pos 0 ≤ℤ t) ⌝ }
         ensures { λ r. ⌜ r ≡ placed (valueAt self t) ⌝ }
     {
-        drawn(counted(self), natural(t))
+        value_of(counted(self), natural(t))
     }
 
     // Whether the value at t is at least the bound. Where the line begins no later than t and no lower, it needn't be
@@ -107,16 +114,19 @@ impl Line {
         }
     }
 
-    // The line with another rate from a point on, where it has the value that it had.
+    // The line with another rate from a point on, where it has the exact value that it had.
     pub fn turn(self, point: i64, rate: i32) -> Redrawn
         requires { ⌜ Computable self × (pos 0 ≤ℤ point) ⌝ }
         ensures { λ r. ⌜ r ≡ held (turned self point rate) ⌝ }
     {
-        match self.value_at(point) {
+        let numbers = counted(self);
+        let at = natural(point);
+        match value_of(numbers, at) {
             Value::Below => Redrawn::Outside,
             Value::Within(value) => Redrawn::Drawn(Line {
                 reference: point,
                 synthetic: value,
+                remainder: remainder_of(numbers, at),
                 rate,
             }),
             Value::Above => Redrawn::Outside,
@@ -125,29 +135,48 @@ impl Line {
 }
 
 // The value at t, over natural numbers.
-fn drawn(line: Numbers, t: u64) -> Value
+fn value_of(line: Numbers, t: u64) -> Value
     requires { ⌜ Counted line × (t ≤ signedEnd) ⌝ }
-    ensures { λ r. ⌜ r ≡ placed (gained line t) ⌝ }
+    ensures { λ r. ⌜ r ≡ placed (floorDiv (exactOf line t) million) ⌝ }
 {
     let Numbers {
         reference,
         synthetic,
+        remainder,
         slope,
     } = line;
     if reference <= t {
-        let growth = scaled(t - reference, slope, 0);
+        let growth = scaled(t - reference, slope, remainder);
         if SIGNED_END - synthetic < growth {
             Value::Above
         } else {
             Value::Within(signed(synthetic + growth))
         }
     } else {
-        let fall = scaled(reference - t, slope, MILLION - 1);
+        let fall = scaled(reference - t, slope, MILLION - 1 - remainder);
         if synthetic < fall {
             Value::Below
         } else {
             Value::Within(signed(synthetic - fall))
         }
+    }
+}
+
+// The millionths beside that value. Before the reference they are counted down from 999,999.
+fn remainder_of(line: Numbers, t: u64) -> u32
+    requires { ⌜ Counted line × (t ≤ signedEnd) ⌝ }
+    ensures { λ r. ⌜ r ≡ floorMod (exactOf line t) million ⌝ }
+{
+    let Numbers {
+        reference,
+        remainder,
+        slope,
+        ..
+    } = line;
+    if reference <= t {
+        rest(t - reference, slope, remainder) as u32
+    } else {
+        (MILLION - 1 - rest(reference - t, slope, MILLION - 1 - remainder)) as u32
     }
 }
 
@@ -159,6 +188,14 @@ fn scaled(distance: u64, slope: u64, carry: u64) -> u64
     distance / MILLION * slope + (distance % MILLION * slope + carry) / MILLION
 }
 
+// What that quotient leaves.
+fn rest(distance: u64, slope: u64, carry: u64) -> u64
+    requires { ⌜ (slope ≤ steepest) × (carry < million) ⌝ }
+    ensures { λ r. ⌜ r ≡ (distance * slope + carry) % million ⌝ }
+{
+    (distance % MILLION * slope + carry) % MILLION
+}
+
 // The line in natural numbers.
 fn counted(line: Line) -> Numbers
     requires { ⌜ Computable line ⌝ }
@@ -167,11 +204,13 @@ fn counted(line: Line) -> Numbers
     let Line {
         reference,
         synthetic,
+        remainder,
         rate,
     } = line;
     Numbers {
         reference: natural(reference),
         synthetic: natural(synthetic),
+        remainder: remainder as u64,
         slope: slope(rate),
     }
 }

@@ -7,7 +7,9 @@
 -- code. `cond b x y` is x where b holds, else y; `let y = .. in` names a part; `λ n. x` is the function that gives x
 -- for n. `c .word` is the field `word` of c, and `record { .. }` a struct by its fields; `some x` is a value, `none`
 -- is none. `x ∷ xs` is a list with x in front, `[]` the empty one, `++` joins two, and `getD xs i 0` is number i of a
--- list, from 0 on. In statements `T b` says that b holds and `a ≡ b` that they are equal; `×` is and, `⊎` is or.
+-- list, from 0 on; `suc n` is n + 1. In statements `T b` says that b holds and `a ≡ b` that they are equal; `×` is and,
+-- `⊎` is or, `A → B` is if A then B, and `(t : ℤ) → ..` says it for every t; a record of statements says that each of
+-- its fields holds, `Unit` says nothing, and `⊥` is never true.
 use mathlib.Core.Bool.{Bool, true, false, not, cond}
 use mathlib.Core.List.{List, [], _∷_}
 use mathlib.Core.Logic.{_⊎_}

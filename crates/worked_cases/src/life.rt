@@ -32,6 +32,24 @@ pub fn update(clock: Clock, request: Request, now: i64) -> Clock {
     updated.clock
 }
 
+// The same request at each nanosecond up to the last, told as one. The generation shows whether all were taken.
+pub fn again(clock: Clock, request: Request, last: u32) -> Clock {
+    print::write(b"; at 1 to ");
+    print::number(last as u64);
+    arguments(request);
+    repeated(clock, request, last)
+}
+
+fn repeated(clock: Clock, request: Request, last: u32) -> Clock {
+    let mut c = clock;
+    let mut now = 0;
+    while now < last {
+        now += 1;
+        c = c.update(request, now as i64).clock;
+    }
+    c
+}
+
 pub fn read(clock: Clock, now: i64) {
     then(now);
     told(clock.read(now));
@@ -47,6 +65,18 @@ fn counted(detailed: Detailed) {
     let details = detailed.details;
     print::write(b" generation ");
     print::number(details.generation as u64);
+}
+
+// The remainder as the details tell it.
+pub fn remainder(clock: Clock, now: i64) {
+    then(now);
+    remainder_told(clock.details(now));
+}
+
+fn remainder_told(detailed: Detailed) {
+    let line = detailed.details.line;
+    print::write(b" remainder ");
+    print::number(line.remainder as u64);
 }
 
 fn told(reading: Reading) {

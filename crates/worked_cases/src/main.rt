@@ -3,9 +3,11 @@
 mod life;
 mod requests;
 
+use crate::life::again;
 use crate::life::create;
 use crate::life::generation;
 use crate::life::read;
+use crate::life::remainder;
 use crate::life::update;
 use clock::Clock;
 
@@ -32,6 +34,7 @@ fn main() {
     case_13();
     case_14();
     request_2();
+    request_7();
     request_9();
 }
 
@@ -210,6 +213,99 @@ fn request_2() {
     generation(c, 100);
     let c = update(c, requests::error(50), 200);
     generation(c, 200);
+    print::end();
+}
+
+// A line keeps its remainder.
+fn request_7() {
+    remainders();
+    trims();
+    remainders_of_other_times();
+    remainders_of_refused_lines();
+    remainders_of_other_clocks();
+}
+
+// A rate alone keeps what is beside the whole value, an error bound leaves it, a value clears it.
+fn remainders() {
+    head(b"R-", 7);
+    let c = create(PLAIN, 0, 0);
+    let c = update(c, requests::set_with_rate(0, -1), 0);
+    remainder(c, 0);
+    let c = update(c, requests::rate(-1), 1);
+    remainder(c, 1);
+    read(c, 1);
+    let c = update(c, requests::rate(-1), 2);
+    remainder(c, 2);
+    read(c, 2);
+    let c = update(c, requests::error(50), 3);
+    remainder(c, 3);
+    let c = update(c, requests::set(2), 3);
+    remainder(c, 3);
+    read(c, 4);
+    print::end();
+}
+
+// A thousand rates lose nothing.
+fn trims() {
+    head(b"R-", 7);
+    let c = create(PLAIN, 0, 0);
+    let c = update(c, requests::set_with_rate(0, -1), 0);
+    let c = again(c, requests::rate(-1), 1000);
+    generation(c, 1000);
+    read(c, 1001);
+    print::end();
+}
+
+// A line turned before its reference, and one that is read before it.
+fn remainders_of_other_times() {
+    head(b"R-", 7);
+    let c = create(PLAIN, 0, 0);
+    let c = update(c, requests::set_at_with_rate(20, 20, 1), 19);
+    let c = update(c, requests::rate_at(1, 19), 19);
+    remainder(c, 19);
+    read(c, 19);
+    read(c, 20);
+    print::end();
+    head(b"R-", 7);
+    let c = create(PLAIN, 0, 0);
+    let c = update(c, requests::set_with_rate(0, -1), 0);
+    let c = update(c, requests::rate_at(-1, 10), 0);
+    remainder(c, 0);
+    read(c, 0);
+    read(c, 4);
+    read(c, 10);
+    print::end();
+}
+
+// Below 0 there is no S0, whatever is beside it.
+fn remainders_of_refused_lines() {
+    head(b"R-", 7);
+    let c = create(PLAIN, 0, 0);
+    let c = update(c, requests::set_at_with_rate(0, 10, -1), 10);
+    let c = update(c, requests::rate_at(-1, 9), 10);
+    remainder(c, 10);
+    print::end();
+}
+
+// On a monotonic clock 14 compares whole values; an automatic start begins with no remainder.
+fn remainders_of_other_clocks() {
+    head(b"R-", 7);
+    let c = create(Clock::MONOTONIC, 0, 0);
+    remainder(c, 0);
+    let c = update(c, requests::set_with_rate(0, -1), 0);
+    let c = update(c, requests::rate(-1), 1);
+    let c = update(c, requests::set(0), 2);
+    let c = update(c, requests::set(1), 2);
+    read(c, 2);
+    print::end();
+    head(b"R-", 7);
+    let c = create(Clock::AUTO_START, 0, 0);
+    remainder(c, 0);
+    let c = update(c, requests::rate(-1), 1);
+    remainder(c, 1);
+    let c = update(c, requests::rate(0), 2);
+    remainder(c, 2);
+    read(c, 2);
     print::end();
 }
 

@@ -112,8 +112,22 @@ impl Dice {
         self.between(first.into(), last.into()) as i32
     }
 
+    /// A clock of this word whose line begins at this time. Half are set to the value then; half were, up to a second
+    /// before, and are trimmed then, which leaves their lines a remainder.
+    fn begun(&mut self, word: u8, value: i64, start: i64) -> Clock {
+        let trimmed = self.of(&[false, true]);
+        let first = if trimmed { start - self.between(1, 1_000_000_000) } else { start };
+        let new = created(word, self.between(1, value), first);
+        let clock = updated(new, set(value, self.request(SYNTHETIC | RATE)), first);
+        if !trimmed {
+            return clock;
+        }
+        let rate = self.rate_within_a_step(&clock);
+        updated(clock, Request { rate, ..self.request(RATE) }, start)
+    }
+
     /// A running clock of one of these words, and a time to ask it at. Half of them had their error bound updated since
-    /// the start.
+    /// their line began.
     fn running(&mut self, words: &[u8], distance: Distance) -> Asking {
         let (start, value, now) = match distance {
             Near => {
@@ -124,8 +138,8 @@ impl Dice {
             }
             Far => (self.between(1 << 56, 1 << 59), self.between(1, 1 << 50), self.between(END - (1 << 50), END)),
         };
-        let new = created(self.of(words), self.between(1, value), start);
-        let mut clock = updated(new, set(value, self.request(SYNTHETIC | RATE)), start);
+        let word = self.of(words);
+        let mut clock = self.begun(word, value, start);
         if self.of(&[false, true]) {
             clock = updated(clock, self.request(ERROR), self.between(start, now));
         }

@@ -6,7 +6,12 @@ use crate::rival::{Clock, Details, Line};
 
 impl From<ffi::Line> for Line {
     fn from(line: ffi::Line) -> Line {
-        Line { reference: line.reference.into(), synthetic: line.synthetic.into(), rate: line.rate.into() }
+        Line {
+            reference: line.reference.into(),
+            synthetic: line.synthetic.into(),
+            remainder: line.remainder,
+            rate: line.rate,
+        }
     }
 }
 

@@ -1,9 +1,10 @@
 //! The rival: the clock of the scope paper ('01', `01-scope.md`), as the requests ('02') that landed amend it, in plain
 //! Rust, as one writes it without proofs.
 //!
-//! Numbers are 128 bits wide, so that no sum or product of what is handed in can overflow. The rules stand in the
-//! papers' order, refusals by their numbers; a refusal of 0 is none. Clocks are trusted: each is one that creation and
-//! updates gave.
+//! Numbers are 128 bits wide, so that no sum or product of what is handed in can overflow. A line keeps its remainder and
+//! its rate as narrow as they are handed over: with wider ones a clock has 144 bytes in place of 128, which the compiler
+//! copies by a call, and a refused update takes 3 ns more. The rules stand in the papers' order, refusals by their
+//! numbers; a refusal of 0 is none. Clocks are trusted: each is one that creation and updates gave.
 
 mod slip;
 
@@ -13,9 +14,9 @@ pub use slip::{read_slip, slip_length, write_slip};
 /// The end of the range of times and values.
 const END: i128 = (1 << 61) - 1;
 /// The widest rate adjustment, in parts per million.
-const MAX_RATE: i128 = 1000;
+const MAX_RATE: i32 = 1000;
 /// The widest step of the rate of a clock that runs (02, R-9).
-const MAX_RATE_STEP: i128 = 200;
+const MAX_RATE_STEP: i64 = 200;
 /// Parts in a whole, for rates; millionths in a nanosecond, for values.
 const MILLION: i128 = 1_000_000;
 /// The error bound that means unknown, all ones.
@@ -23,18 +24,30 @@ const UNKNOWN_ERROR: i128 = (1 << 64) - 1;
 /// How many generations there are before they begin again at 0.
 const GENERATIONS: i128 = 1 << 32;
 
-/// A line (R0, S0, a).
+/// A line (R0, S0, a), with the remainder in millionths that stands beside S0 (02, R-7).
 #[derive(Clone, Copy, Debug, Default, PartialEq)]
 pub struct Line {
     pub reference: i128,
     pub synthetic: i128,
-    pub rate: i128,
+    pub remainder: u32,
+    pub rate: i32,
 }
 
 impl Line {
+    /// What the line at t stands above S0, in millionths. S0 is left out to keep near quotients short.
+    fn above(&self, t: i128) -> i128 {
+        i128::from(self.remainder) + (t - self.reference) * (MILLION + i128::from(self.rate))
+    }
+
     /// The value at t, rounded down also before the reference (01, 'The clock we sell').
     fn value(&self, t: i128) -> i128 {
-        self.synthetic + ((t - self.reference) * (MILLION + self.rate)).div_euclid(MILLION)
+        self.synthetic + self.above(t).div_euclid(MILLION)
+    }
+
+    /// The line of this rate that at the point stands where the old one does.
+    fn turned(&self, point: i128, rate: i32) -> Line {
+        let remainder = self.above(point).rem_euclid(MILLION) as u32;
+        Line { reference: point, synthetic: self.value(point), remainder, rate }
     }
 }
 
@@ -68,7 +81,7 @@ pub struct Details {
 struct Asked {
     synthetic: Option<i128>,
     reference: Option<i128>,
-    rate: Option<i128>,
+    rate: Option<i32>,
     error: Option<i128>,
 }
 
@@ -78,7 +91,7 @@ impl Asked {
         Asked {
             synthetic: flags(SYNTHETIC).then_some(request.synthetic.into()),
             reference: flags(REFERENCE).then_some(request.reference.into()),
-            rate: flags(RATE).then_some(request.rate.into()),
+            rate: flags(RATE).then_some(request.rate),
             error: flags(ERROR).then_some(request.error.into()),
         }
     }
@@ -94,8 +107,8 @@ impl Asked {
     }
 
     /// Refusal 22 of a clock that runs at this rate.
-    fn wide_step(&self, from: i128) -> bool {
-        self.rate.is_some_and(|rate| (rate - from).abs() > MAX_RATE_STEP)
+    fn wide_step(&self, from: i32) -> bool {
+        self.rate.is_some_and(|rate| (i64::from(rate) - i64::from(from)).abs() > MAX_RATE_STEP)
     }
 }
 
@@ -202,16 +215,17 @@ fn updated(clock: &Clock, word: u64, asked: &Asked, now: i128) -> Result<Clock, 
 }
 
 /// The table of 01, 'The update word and its effect'; none where the line stays. The point is the paper's P, where a
-/// rate alone keeps the old line's value; the old rate is 0 before the start.
+/// rate alone keeps the old line's value to the millionth (02, R-7); the old rate is 0 before the start.
 fn new_line(clock: &Clock, asked: &Asked, now: i128) -> Option<Line> {
     let point = asked.reference.unwrap_or(now);
-    let (synthetic, rate) = match (asked.synthetic, asked.rate) {
-        (Some(synthetic), None) => (synthetic, if clock.started { clock.line.rate } else { 0 }),
-        (None, Some(rate)) => (clock.line.value(point), rate),
-        (Some(synthetic), Some(rate)) => (synthetic, rate),
-        (None, None) => return None,
-    };
-    Some(Line { reference: point, synthetic, rate })
+    let old_rate = if clock.started { clock.line.rate } else { 0 };
+    match (asked.synthetic, asked.rate) {
+        (Some(synthetic), rate) => {
+            Some(Line { reference: point, synthetic, remainder: 0, rate: rate.unwrap_or(old_rate) })
+        }
+        (None, Some(rate)) => Some(clock.line.turned(point, rate)),
+        (None, None) => None,
+    }
 }
 
 /// What 01 tells below that table, with every accepted update counted (02, R-2).

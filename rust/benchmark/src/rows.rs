@@ -195,19 +195,26 @@ mod tests {
         assert_eq!(rows().len(), 24);
     }
 
-    /// No row has a time before the line's reference, where a value is rounded away from 0.
+    /// Updates both sides' clock and reads it up to 4000.
+    fn alike(clock: ffi::Clock, request: Request) -> ffi::Clock {
+        let (library, plain) = (ffi::cementoad_update(clock, request, 0), rival::update(&clock.into(), &request, 0));
+        assert_eq!((library.refusal, library.clock.into()), plain);
+        for now in 0..=4000 {
+            let reading = ffi::cementoad_read(library.clock, now);
+            assert_eq!((reading.refusal, reading.value.into()), rival::read(&plain.1, now));
+        }
+        library.clock
+    }
+
+    /// No row has a time before the line's reference, where a value is rounded away from 0. Turned there, most lines
+    /// have a remainder.
     #[test]
     fn both_sides_read_alike_before_the_reference() {
         for rate in [-1000, -1, 0, 1, 1000] {
             let word = VERSION_2 | SYNTHETIC | REFERENCE | RATE;
             let set = Request { word, synthetic: 5000, reference: 4000, rate, error: 0 };
-            let clock = ffi::cementoad_create(0, 0, 0).clock;
-            let (library, plain) = (ffi::cementoad_update(clock, set, 0), rival::update(&clock.into(), &set, 0));
-            assert_eq!((library.refusal, library.clock.into()), plain);
-            for now in 0..=4000 {
-                let reading = ffi::cementoad_read(library.clock, now);
-                assert_eq!((reading.refusal, reading.value.into()), rival::read(&plain.1, now));
-            }
+            let turn = Request { word: VERSION_2 | REFERENCE | RATE, reference: 3999, ..set };
+            alike(alike(ffi::cementoad_create(0, 0, 0).clock, set), turn);
         }
     }
 }

@@ -13,7 +13,7 @@ pub use abi::check_archive;
 /// The version of the boundary that is declared here. It goes up with every change of a struct, a function or a number
 /// that callers were built with, and with every new refusal. Where [`cementoad_abi`] answers another, nothing else of
 /// the archive may be called.
-pub const ABI: u32 = 2;
+pub const ABI: u32 = 3;
 
 /// The end of the range of times and values, 2^61 - 1.
 pub const END: i64 = (1 << 61) - 1;
@@ -60,7 +60,9 @@ pub const NO_REFUSAL: u8 = 0;
 /// The refusal, not of the paper and checked before all others, of what fails the test that is told at [`Clock`].
 pub const NOT_A_CLOCK: u8 = 255;
 
-/// A line through (reference, synthetic) that gains 1,000,000 + rate millionths of a nanosecond in each nanosecond.
+/// A line. At `reference` it stands at `synthetic` nanoseconds and `remainder` millionths of a nanosecond; in each
+/// nanosecond it gains 1,000,000 + `rate` millionths. Its value at a time is where it stands then, rounded down to a
+/// whole nanosecond, also before `reference`.
 #[repr(C)]
 #[derive(Clone, Copy, Debug, Default, PartialEq, Eq, Hash)]
 pub struct Line {
@@ -68,14 +70,17 @@ pub struct Line {
     pub reference: i64,
     /// The line's value there, in nanoseconds.
     pub synthetic: i64,
+    /// How far above that the line stands there, in millionths of a nanosecond, 0 to 999,999. It is 0 at a start and
+    /// where a value is set; a rate alone takes it, as it takes the value, from where the old line stands.
+    pub remainder: u32,
     /// The rate adjustment, in parts per million.
     pub rate: i32,
 }
 
 /// A clock. Each call on one first tests what it is handed, and is refused with [`NOT_A_CLOCK`] unless creation would
 /// take the word and the backstop at the latest time, and
-/// - `started` is 1, the line's reference and synthetic lie in 0..END, its rate lies in -1000..1000, and its value at
-///   the latest time is not below the backstop; or
+/// - `started` is 1, the line's reference and synthetic lie in 0..END, its remainder in 0..999,999 and its rate in
+///   -1000..1000, and its value at the latest time is not below the backstop; or
 /// - `started` is 0, auto start is not set, and line, error and generation are as creation leaves them.
 ///
 /// So zeros are no clock. Of a made-up clock that passes nothing is promised but this: each call ends and answers by

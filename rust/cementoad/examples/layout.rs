@@ -24,7 +24,7 @@ macro_rules! layout {
 }
 
 fn structs() {
-    layout!(line Line: reference, synthetic, rate);
+    layout!(line Line: reference, synthetic, remainder, rate);
     layout!(clock Clock: line, backstop, latest, error, generation, word, started);
     layout!(request Request: word, synthetic, reference, rate, error);
     layout!(created Created: clock, refusal);

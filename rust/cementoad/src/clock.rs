@@ -68,7 +68,8 @@ impl Clock {
         Ok(Clock { raw: created.clock })
     }
 
-    /// The clock's value at now, which is the backstop before the start; or refusal 1, 2 or 12.
+    /// The clock's value at now, which is the backstop before the start and later the line's, rounded down; or refusal
+    /// 1, 2 or 12.
     ///
     /// ```
     /// use cementoad::{Clock, Refusal, Request};
@@ -124,6 +125,13 @@ impl Clock {
     ///
     /// clock.update(&Request::new().error(50), 400)?; // each accepted update raises the generation
     /// assert_eq!(clock.details(400)?.generation, 3);
+    ///
+    /// // Slowed down by one part per million at 400, the clock stands a millionth under 1801 at 401. A change of the
+    /// // rate keeps what is above the whole nanosecond as the line's remainder.
+    /// clock.update(&Request::new().rate(-1), 400)?;
+    /// clock.update(&Request::new().rate(0), 401)?;
+    /// let line = clock.details(401)?.line;
+    /// assert_eq!((line.synthetic, line.remainder), (1800, 999_999));
     /// # Ok::<(), cementoad::Refusal>(())
     /// ```
     pub fn details(&self, now: i64) -> Result<Details, Refusal> {

@@ -22,7 +22,12 @@ pub fn or_else(request: &Request, other: &Request) -> Request {
 }
 
 fn wide_line(line: &Line) -> second::Line {
-    second::Line { reference: line.reference.into(), synthetic: line.synthetic.into(), rate: line.rate.into() }
+    second::Line {
+        reference: line.reference.into(),
+        synthetic: line.synthetic.into(),
+        remainder: line.remainder.into(),
+        rate: line.rate.into(),
+    }
 }
 
 /// A clock of the boundary in the second program's own type.
@@ -46,8 +51,12 @@ pub fn narrow<T: TryFrom<i128>>(wide: i128, other: T) -> T {
 }
 
 fn narrow_line(line: &second::Line) -> Line {
-    let (reference, synthetic) = (narrow(line.reference, i64::MAX), narrow(line.synthetic, i64::MAX));
-    Line { reference, synthetic, rate: narrow(line.rate, i32::MAX) }
+    Line {
+        reference: narrow(line.reference, i64::MAX),
+        synthetic: narrow(line.synthetic, i64::MAX),
+        remainder: narrow(line.remainder, u32::MAX),
+        rate: narrow(line.rate, i32::MAX),
+    }
 }
 
 pub fn narrow_clock(clock: &second::Clock) -> Clock {
@@ -78,4 +87,9 @@ pub fn narrow_details(details: &second::Details) -> Details {
 /// The line's value at a time.
 pub fn value(line: &Line, time: i64) -> i128 {
     second::value(&wide_line(line), time.into())
+}
+
+/// Where the line stands at a time, in millionths.
+pub fn exact(line: &Line, time: i64) -> i128 {
+    second::exact(&wide_line(line), time.into())
 }

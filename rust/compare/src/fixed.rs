@@ -37,8 +37,9 @@ macro_rules! lists {
 
 pub fn fixed_lists() -> Lists {
     let clocks = [worked_cases(), creations(), readings(), requests_refused(), lines_refused(), orders(), effects()];
+    let remainders = [remainders_kept(), remainders_judged(), many_changes()];
     let slips = [slips_read(), slips_written(), each_bit()];
-    clocks.into_iter().chain(slips).flatten().collect()
+    clocks.into_iter().chain(remainders).chain(slips).flatten().collect()
 }
 
 fn answers(call: Call, answer: Answer) -> Step {
@@ -53,11 +54,11 @@ fn is_started(started: bool) -> Step {
     answers(Started, Answer::Started(started))
 }
 
-/// The details of a clock of this word and backstop, with this line and latest time. At generation 1 no update
-/// has started it.
-fn tells(kind: (u8, i64), now: i64, line: (i64, i64, i32), error: u64, generation: u32, latest: i64) -> Step {
+/// The details of a clock of this word and backstop, with this line (R0, S0, the remainder, a) and latest time. At
+/// generation 1 no update has started it.
+fn tells(kind: (u8, i64), now: i64, line: (i64, i64, u32, i32), error: u64, generation: u32, latest: i64) -> Step {
     let (word, backstop) = kind;
-    let line = Line { reference: line.0, synthetic: line.1, rate: line.2 };
+    let line = Line { reference: line.0, synthetic: line.1, remainder: line.2, rate: line.3 };
     let started = word == AUTO_START || generation != 1;
     let details = cementoad_sys::Details { started, line, error, generation, latest, word, backstop, now };
     answers(Details(now), Answer::Detailed(Detailed { refusal: NO_REFUSAL, details }))
@@ -125,7 +126,7 @@ fn worked_cases() -> Lists {
             Update(at(3_000_000_000, rate(-100)), 2_000_000_000), reads(2_000_000_000, 2_000_100_000);
         "case 5": Create(PLAIN, 0, 0), Update(with(1, at(10, set(10))), 9), reads(9, 8), reads(10, 10);
         "case 6": Create(PLAIN, 0, 0), Update(with(-1, set(0)), 0), Update(rate(-1), 1), Update(rate(-1), 2),
-            reads(3, 0);
+            reads(3, 2);
         "case 7": Create(PLAIN, 0, 0), Update(with(1001, set(1500)), 100) => 6, Update(with(1000, set(1500)), 100),
             Create(PLAIN, 0, 0), Update(with(-1001, set(1500)), 100) => 6, Update(with(-1000, set(1500)), 100);
         "case 8": Create(PLAIN, 1000, 0), Update(set(999), 0) => 13, Update(set(1000), 0);
@@ -276,31 +277,99 @@ fn effects() -> Lists {
     let aged = Clock { generation: u32::MAX, started: 1, ..Clock::default() };
     lists! {
         "before a start and behind an automatic one": Create(STEADY, 7, 0), is_started(false),
-            tells((STEADY, 7), 3, (0, 0, 0), unknown, 1, 0), Create(PLAIN, 0, 0), is_started(false),
-            tells((PLAIN, 0), 3, (0, 0, 0), unknown, 1, 0), Create(AUTO_START, 0, 5), is_started(true),
-            tells((AUTO_START, 0), 6, (0, 0, 0), unknown, 1, 5);
+            tells((STEADY, 7), 3, (0, 0, 0, 0), unknown, 1, 0), Create(PLAIN, 0, 0), is_started(false),
+            tells((PLAIN, 0), 3, (0, 0, 0, 0), unknown, 1, 0), Create(AUTO_START, 0, 5), is_started(true),
+            tells((AUTO_START, 0), 6, (0, 0, 0, 0), unknown, 1, 5);
         "a set keeps the old rate": Create(PLAIN, 0, 0), Update(with(7, set(5)), 10),
-            tells((PLAIN, 0), 11, (10, 5, 7), unknown, 2, 10), Update(set(6), 20),
-            tells((PLAIN, 0), 21, (20, 6, 7), unknown, 3, 20), Update(with(8, set(6)), 20),
-            tells((PLAIN, 0), 20, (20, 6, 8), unknown, 4, 20);
+            tells((PLAIN, 0), 11, (10, 5, 0, 7), unknown, 2, 10), Update(set(6), 20),
+            tells((PLAIN, 0), 21, (20, 6, 0, 7), unknown, 3, 20), Update(with(8, set(6)), 20),
+            tells((PLAIN, 0), 20, (20, 6, 0, 8), unknown, 4, 20);
         "an equal line raises the generation": Create(PLAIN, 0, 0), Update(set(0), 0), Update(set(0), 0),
-            tells((PLAIN, 0), 0, (0, 0, 0), unknown, 3, 0), Update(junk(rate(0)), 0),
-            tells((PLAIN, 0), 0, (0, 0, 0), unknown, 4, 0);
+            tells((PLAIN, 0), 0, (0, 0, 0, 0), unknown, 3, 0), Update(junk(rate(0)), 0),
+            tells((PLAIN, 0), 0, (0, 0, 0, 0), unknown, 4, 0);
         "the error bound alone raises the generation": Create(PLAIN, 0, 0), Update(error(5), 0) => 8,
-            tells((PLAIN, 0), 0, (0, 0, 0), unknown, 1, 0), Update(set(0), 0), Update(junk(error(5)), 9),
-            tells((PLAIN, 0), 9, (0, 0, 0), 5, 3, 9), Update(error(5), 9), tells((PLAIN, 0), 9, (0, 0, 0), 5, 4, 9),
-            Update(junk(rate(1)), 9), tells((PLAIN, 0), 9, (9, 9, 1), 5, 5, 9);
+            tells((PLAIN, 0), 0, (0, 0, 0, 0), unknown, 1, 0), Update(set(0), 0), Update(junk(error(5)), 9),
+            tells((PLAIN, 0), 9, (0, 0, 0, 0), 5, 3, 9), Update(error(5), 9),
+            tells((PLAIN, 0), 9, (0, 0, 0, 0), 5, 4, 9), Update(junk(rate(1)), 9),
+            tells((PLAIN, 0), 9, (9, 9, 0, 1), 5, 5, 9);
         "a line and an error bound raise it once": Create(PLAIN, 0, 0), Update(within(5, with(7, set(1))), 3),
-            tells((PLAIN, 0), 3, (3, 1, 7), 5, 2, 3);
+            tells((PLAIN, 0), 3, (3, 1, 0, 7), 5, 2, 3);
         "the generation begins again at 0": Take(aged), Update(error(1), 0),
-            tells((PLAIN, 0), 0, (0, 0, 0), 1, 0, 0), Take(aged), Update(rate(0), 0),
-            tells((PLAIN, 0), 0, (0, 0, 0), 0, 0, 0);
+            tells((PLAIN, 0), 0, (0, 0, 0, 0), 1, 0, 0), Take(aged), Update(rate(0), 0),
+            tells((PLAIN, 0), 0, (0, 0, 0, 0), 0, 0, 0);
         "a refused update leaves no trace": Create(PLAIN, 0, 0), Update(set(5), 0), Update(at(5, error(9)), 100) => 7,
-            Update(error(1), 50), tells((PLAIN, 0), 60, (0, 5, 0), 1, 3, 50);
+            Update(error(1), 50), tells((PLAIN, 0), 60, (0, 5, 0, 0), 1, 3, 50);
         "a rate at another time keeps the value there": Create(PLAIN, 0, 0), Update(set(100), 10),
-            Update(at(1000, rate(200)), 20), tells((PLAIN, 0), 20, (1000, 1090, 200), unknown, 3, 20),
+            Update(at(1000, rate(200)), 20), tells((PLAIN, 0), 20, (1000, 1090, 0, 200), unknown, 3, 20),
             reads(1000, 1090);
     }
+}
+
+/// What becomes of a line's remainder (02, R-7).
+fn remainders_kept() -> Lists {
+    let (unknown, plain, slow) = (UNKNOWN_ERROR, (PLAIN, 0), with(-1, set(0)));
+    lists! {
+        "a rate alone keeps the exact value": Create(PLAIN, 0, 0), Update(slow, 0),
+            tells(plain, 0, (0, 0, 0, -1), unknown, 2, 0), Update(rate(-1), 1),
+            tells(plain, 1, (1, 0, 999_999, -1), unknown, 3, 1), Update(rate(0), 3),
+            tells(plain, 3, (3, 2, 999_997, 0), unknown, 4, 3), Update(rate(3), 4),
+            tells(plain, 4, (4, 3, 999_997, 3), unknown, 5, 4), reads(4, 3), reads(5, 5), Update(rate(0), 5),
+            tells(plain, 5, (5, 5, 0, 0), unknown, 6, 5);
+        "a rate alone keeps the exact value before the reference": Create(PLAIN, 0, 0),
+            Update(with(1, at(10, set(10))), 9), Update(at(9, rate(1)), 9),
+            tells(plain, 9, (9, 8, 999_999, 1), unknown, 3, 9), reads(9, 8), reads(10, 10), Update(at(8, rate(-1)), 9),
+            tells(plain, 9, (8, 7, 999_998, -1), unknown, 4, 9), reads(9, 8);
+        "a remainder behind a wide product": Create(PLAIN, 0, 0), Update(slow, 0), Update(rate(-1), 1),
+            reads(END, 2_305_840_703_370_684_737), Update(rate(0), END),
+            tells(plain, END, (END, 2_305_840_703_370_684_737, 306_049, 0), unknown, 4, END);
+        "a remainder behind an automatic start": Create(AUTO_START, 0, 5), Update(rate(1), 7), Update(rate(0), 8),
+            tells((AUTO_START, 0), 8, (8, 8, 1, 0), unknown, 3, 8);
+        "a value set clears the remainder": Create(PLAIN, 0, 0), Update(slow, 0), Update(rate(-1), 1),
+            Update(set(7), 1), tells(plain, 1, (1, 7, 0, -1), unknown, 4, 1), Update(rate(0), 2),
+            tells(plain, 2, (2, 7, 999_999, 0), unknown, 5, 2), Update(with(3, at(5, set(7))), 2),
+            tells(plain, 2, (5, 7, 0, 3), unknown, 6, 2);
+        "the error bound alone keeps the remainder": Create(PLAIN, 0, 0), Update(slow, 0), Update(rate(-1), 1),
+            Update(error(5), 7), tells(plain, 7, (1, 0, 999_999, -1), 5, 4, 7), reads(7, 6);
+    }
+}
+
+/// Rules 12 to 14 look at whole nanoseconds, rounded down.
+fn remainders_judged() -> Lists {
+    let (unknown, slow) = (UNKNOWN_ERROR, with(-1, set(0)));
+    lists! {
+        "update 12 S0 just below 0": Create(PLAIN, 0, 0), Update(with(1, at(10, set(10))), 9),
+            Update(at(0, rate(1)), 9) => 12, Update(at(1, rate(1)), 9),
+            tells((PLAIN, 0), 9, (1, 0, 999_991, 1), unknown, 3, 9), Update(at(0, rate(1)), 9) => 12;
+        "update 12 S0 at 0 by the remainder": Create(PLAIN, 0, 0), Update(slow, 0), Update(rate(-1), 1),
+            Update(at(0, rate(-1)), 1), tells((PLAIN, 0), 1, (0, 0, 0, -1), unknown, 4, 1);
+        "update and read 12 END and a remainder": Create(PLAIN, 0, 0), Update(with(-1, set(END)), 0),
+            Update(rate(-1), 1), tells((PLAIN, 0), 1, (1, END, 999_999, -1), unknown, 3, 1), reads(1, END),
+            Read(2) => 12, Update(rate(-1), 2) => 12;
+        "update 13 just below the backstop": Create(PLAIN, 0, 0), Update(with(-1, at(1, set(0))), 0) => 13,
+            Create(PLAIN, 1, 0), Update(with(-1, set(1)), 0), Update(at(1, rate(0)), 0) => 13,
+            Update(at(1, rate(-1)), 0), tells((PLAIN, 1), 0, (1, 1, 999_999, -1), unknown, 3, 0);
+        "update 14 less by millionths": Create(MONOTONIC, 0, 0), Update(slow, 0), Update(at(3, rate(0)), 2),
+            tells((MONOTONIC, 0), 2, (3, 2, 999_997, 0), unknown, 3, 2), reads(2, 1), Update(set(1), 2),
+            tells((MONOTONIC, 0), 2, (2, 1, 0, 0), unknown, 4, 2), Update(set(0), 2) => 14;
+    }
+}
+
+/// A plain clock, started at 0 with the value 0 and this rate, and handed the same rate at 1, 2 and so on to 1000.
+fn thousand_changes(same: i32) -> impl Iterator<Item = Step> {
+    let start = [Create(PLAIN, 0, 0), Update(with(same, set(0)), 0)];
+    let changes = (1..=1000).map(move |now| Update(rate(same), now));
+    start.into_iter().chain(changes).map(Step::from)
+}
+
+/// Case 6 of 01, longer: what every change leaves adds up.
+fn many_changes() -> Lists {
+    let kept = |line| tells((PLAIN, 0), 1001, line, UNKNOWN_ERROR, 1002, 1000);
+    let slow = thousand_changes(-1).chain([reads(1001, 1000), kept((1000, 999, 999_000, -1))]);
+    let fast = thousand_changes(1000).chain([reads(1001, 1002), kept((1000, 1001, 0, 1000))]);
+    vec![
+        ("a thousand rate changes of a slow clock", slow.collect()),
+        ("a thousand rate changes of a fast clock", fast.collect()),
+    ]
 }
 
 fn slips_read() -> Lists {

@@ -73,7 +73,7 @@ fn request(rng: &mut Rng, clock: &Clock, now: i64) -> Request {
     let reference = if flagged(rng, REFERENCE) { reference(rng, clock, now) } else { rng.edge() };
     let new_rate = if word & RATE != 0 { rate } else { clock.line.rate };
     let point = if word & REFERENCE != 0 { reference } else { now };
-    let from = Line { reference: point, synthetic: 0, rate: new_rate };
+    let from = Line { reference: point, synthetic: 0, remainder: 0, rate: new_rate };
     let synthetic = if flagged(rng, SYNTHETIC) { synthetic(rng, clock, now, &from) } else { rng.edge() };
     Request { word, synthetic, reference, rate, error }
 }

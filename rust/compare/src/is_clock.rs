@@ -7,7 +7,7 @@ use crate::convert::value;
 /// A part of the test: its name, and whether a clock passes it.
 type Part = (&'static str, fn(&Clock) -> bool);
 
-pub const PARTS: [Part; 14] = [
+pub const PARTS: [Part; 15] = [
     ("the started byte is 0 or 1", |clock| clock.started <= 1),
     // Creation would take word and backstop at the latest time: not 1, 3, 15, 16 or 17.
     ("the latest time is inside", |clock| inside(clock.latest)),
@@ -18,6 +18,7 @@ pub const PARTS: [Part; 14] = [
     // Once it is started. The value may be above END.
     ("the reference is inside", |clock| rests(clock) || inside(clock.line.reference)),
     ("the synthetic is inside", |clock| rests(clock) || inside(clock.line.synthetic)),
+    ("the remainder is below a million", |clock| rests(clock) || clock.line.remainder < 1_000_000),
     ("the rate is inside", |clock| rests(clock) || (-MAX_RATE..=MAX_RATE).contains(&clock.line.rate)),
     ("the value at the latest time is not below the backstop", |clock| {
         rests(clock) || value(&clock.line, clock.latest) >= clock.backstop.into()

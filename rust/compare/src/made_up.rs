@@ -25,7 +25,7 @@ fn resting(rng: &mut Rng) -> Clock {
 fn running(rng: &mut Rng) -> Clock {
     let (word, latest, rate) = (rng.pick(&WORDS), rng.inside(), rng.sound_rate());
     let reference = (latest + rng.pick(&[-1, 0, 1]) * rng.up_to_bits(60)).clamp(0, END);
-    let mut line = Line { reference, synthetic: rng.inside(), rate };
+    let mut line = Line { reference, synthetic: rng.inside(), remainder: rng.sound_remainder(), rate };
     if value(&line, latest) < 0 {
         line.reference = latest;
     }
@@ -41,8 +41,9 @@ fn at_edge(rng: &mut Rng, clock: Clock) -> Clock {
     let Clock { line, backstop, latest, word, .. } = clock;
     let end = rng.pick(&[-1, 0, 1, END - 1, END, END + 1]);
     let one: i32 = rng.pick(&[1, -1]);
+    let remainder = rng.pick(&[999_999, 1_000_000, u32::MAX]);
     let at_latest = clamp(value(&line, latest));
-    match rng.below(14) {
+    match rng.below(15) {
         0 => Clock { started: rng.pick(&[0, 1, 2, 3, 128, 255]), ..clock },
         1 => Clock { latest: end, ..clock },
         2 => Clock { word: word | 1 << rng.below(5), ..clock },
@@ -51,15 +52,16 @@ fn at_edge(rng: &mut Rng, clock: Clock) -> Clock {
         5 => Clock { word: word | AUTO_START, latest: backstop.saturating_sub(rng.pick(&[0, 1])), ..clock },
         6 | 12 => Clock { line: Line { reference: end, ..line }, backstop: 0, ..clock },
         7 | 13 => Clock { line: Line { synthetic: end, ..line }, backstop: 0, ..clock },
-        8 => Clock { line: Line { rate: one * rng.pick(&[1000, 1001]), ..line }, backstop: 0, ..clock },
-        9 => Clock { backstop: at_latest.saturating_add(rng.pick(&[-1, 0, 1])), ..clock },
-        10 => Clock { error: rng.pick(&[0, u64::MAX - 1]), ..clock },
+        8 => Clock { line: Line { remainder, ..line }, backstop: 0, ..clock },
+        9 => Clock { line: Line { rate: one * rng.pick(&[1000, 1001]), ..line }, backstop: 0, ..clock },
+        10 => Clock { backstop: at_latest.saturating_add(rng.pick(&[-1, 0, 1])), ..clock },
+        11 => Clock { error: rng.pick(&[0, u64::MAX - 1]), ..clock },
         _ => Clock { generation: rng.pick(&[0, 2, u32::MAX]), ..clock },
     }
 }
 
 fn anything(rng: &mut Rng) -> Clock {
-    let line = Line { reference: rng.edge(), synthetic: rng.edge(), rate: rng.rate() };
+    let line = Line { reference: rng.edge(), synthetic: rng.edge(), remainder: rng.remainder(), rate: rng.rate() };
     let (backstop, latest, error, generation) = (rng.edge(), rng.edge(), rng.error(), rng.any() as u32);
     Clock { line, backstop, latest, error, generation, word: rng.any() as u8, started: rng.pick(&[0, 1, 1, 2, 255]) }
 }

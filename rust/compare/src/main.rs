@@ -1,7 +1,8 @@
 //! Compares the library with the second program over lists of calls: every number of every answer and every byte of
 //! every buffer, refused or not, on clocks that creation gave and on clocks made up by hand. It holds the answers
-//! against the customer's demands 2 and 3, the count that 02 asks of the generation, and what is promised of a clock
-//! that is made up; and it counts what it met. Unless told otherwise it makes ten million calls, with the seed 1.
+//! against the customer's demands 2 and 3, the generation's count and the exact line that 02 asks for, and what is
+//! promised of a clock that is made up; and it counts what it met. Unless told otherwise it makes ten million calls,
+//! with the seed 1.
 
 mod call;
 mod convert;

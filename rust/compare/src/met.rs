@@ -4,10 +4,10 @@ use std::collections::BTreeMap;
 use std::ops::Range;
 
 use cementoad_sys::*;
-use second::{new_line, slip_length};
+use second::{MILLION, new_line, slip_length};
 
 use crate::call::Call;
-use crate::convert::{value, wide_clock, wide_request};
+use crate::convert::{exact, value, wide_clock, wide_request};
 use crate::is_clock::{PARTS, failing};
 
 /// How often each is to be met.
@@ -83,12 +83,13 @@ impl Met {
             _ if refusal == NOT_A_CLOCK => {}
             Call::Create(word, backstop, now) => self.creation(word, backstop, now),
             Call::Read(now) => self.reading(clock, now),
-            Call::Details(now) => self.now(clock, now),
+            Call::Details(now) => self.details(clock, now),
             Call::Update(request, now) => {
                 self.now(clock, now);
                 self.arguments(&request);
                 self.step(clock, &request);
                 self.line(clock, &request, now);
+                self.remainder(clock, &request, now);
             }
             Call::WriteSlip(request, ref buffer) => {
                 self.arguments(&request);
@@ -142,9 +143,19 @@ impl Met {
     fn reading(&mut self, clock: &Clock, now: i64) {
         self.now(clock, now);
         if clock.started == 1 && self.reaches(12) {
-            self.compare(12, "value and END", value(&clock.line, now), END);
-            self.row("before the reference", now < clock.line.reference);
+            let line = &clock.line;
+            let (shown, early) = (value(line, now), now < line.reference);
+            self.compare(12, "value and END", shown, END);
+            self.row("before the reference", early);
+            self.row("before the reference of a line with a remainder", early && line.remainder != 0);
+            self.row("one more by the remainder", shown > value(&Line { remainder: 0, ..*line }, now));
+            self.row("END and millionths", shown == END.into() && exact(line, now) > shown * MILLION);
         }
+    }
+
+    fn details(&mut self, clock: &Clock, now: i64) {
+        self.now(clock, now);
+        self.row("of a line with a remainder", self.refusal == NO_REFUSAL && clock.line.remainder != 0);
     }
 
     fn arguments(&mut self, request: &Request) {
@@ -178,6 +189,7 @@ impl Met {
         if !self.reaches(12) {
             return;
         }
+        let taken = self.refusal == NO_REFUSAL;
         let new = new_line(&wide_clock(clock), &wide_request(request), now.into());
         if let Some(line) = new {
             let new_value = second::value(&line, now.into());
@@ -185,11 +197,13 @@ impl Met {
             self.compare(12, "value and END", new_value, END);
             self.compare(13, "value and backstop", new_value, clock.backstop);
             if clock.word & MONOTONIC != 0 && clock.started == 1 {
-                self.compare(14, "new and old value", new_value, value(&clock.line, now));
+                let old_value = value(&clock.line, now);
+                let less = second::exact(&line, now.into()) < exact(&clock.line, now);
+                self.compare(14, "new and old value", new_value, old_value);
+                self.row("an equal value, less in millionths", taken && less && new_value == old_value);
             }
             self.row("before the new reference", i128::from(now) < line.reference);
         }
-        let taken = self.refusal == NO_REFUSAL;
         let flags = request.word & (SYNTHETIC | REFERENCE | RATE);
         self.row("synthetic", taken && flags == SYNTHETIC);
         self.row("synthetic at a reference", taken && flags == SYNTHETIC | REFERENCE);
@@ -202,6 +216,20 @@ impl Met {
         let last = taken && clock.generation == u32::MAX;
         self.row("a generation of 0", last && new.is_some());
         self.row("a generation of 0, by the error bound alone", last && new.is_none());
+    }
+
+    /// What becomes of a line with a remainder where an update is taken (02, R-7).
+    fn remainder(&mut self, clock: &Clock, request: &Request, now: i64) {
+        let (old, flags) = (&clock.line, request.word & (SYNTHETIC | RATE));
+        let point = if request.word & REFERENCE != 0 { request.reference } else { now };
+        let taken = self.refusal == NO_REFUSAL && old.remainder != 0;
+        let turned = taken && flags == RATE;
+        let more = value(old, point) > value(&Line { remainder: 0, ..*old }, point);
+        self.row("rate only, of a line with a remainder", turned);
+        self.row("rate only, of a line with a remainder, before its reference", turned && point < old.reference);
+        self.row("rate only, one more by the remainder", turned && more);
+        self.row("a remainder cleared by a value", taken && flags & SYNTHETIC != 0);
+        self.row("a remainder kept by the error bound", taken && flags == 0);
     }
 
     /// A slip with a header of version 2: its bytes beside its length, its rate field beside the widest.
@@ -230,6 +258,7 @@ impl Met {
         if clock.started == 1 {
             self.range(0, ["reference and 0", "reference and END"], clock.line.reference);
             self.range(0, ["synthetic and 0", "synthetic and END"], clock.line.synthetic);
+            self.compare(0, "remainder and 999,999", clock.line.remainder, 999_999);
             self.compare(0, "rate and the least", clock.line.rate, -MAX_RATE);
             self.compare(0, "rate and the widest", clock.line.rate, MAX_RATE);
             self.compare(0, "value and backstop", value(&clock.line, clock.latest), clock.backstop);

@@ -78,6 +78,17 @@ impl Rng {
         self.pick(&[0, 1, -1, 999, -999, 1000, -1000, 23, any, any, any, any, any, any])
     }
 
+    /// A remainder, most below a million.
+    pub fn remainder(&mut self) -> u32 {
+        let any = self.any() as u32;
+        if self.percent(12) { self.pick(&[1_000_000, u32::MAX, any]) } else { self.sound_remainder() }
+    }
+
+    pub fn sound_remainder(&mut self) -> u32 {
+        let any = self.below(1_000_000) as u32;
+        self.pick(&[0, 1, 999_998, 999_999, any, any, any, any])
+    }
+
     pub fn error(&mut self) -> u64 {
         let (any, small) = (self.any(), self.up_to_bits(62) as u64);
         self.pick(&[0, 1, u64::MAX, u64::MAX - 1, 1 << 63, any, any, small, small, small])

@@ -22,11 +22,13 @@ pub const RATE: u64 = 1 << 55;
 pub const ERROR: u64 = 1 << 54;
 const ZERO_BITS: u64 = (1 << 54) - 1;
 
-/// The paper's (R0, S0, a). The default, all zeros, is the identity line.
+/// The paper's (R0, S0, a), with the remainder in millionths that R-7 of 02 puts beside S0. The default, all zeros, is
+/// the identity line.
 #[derive(Clone, Copy, Debug, Default, PartialEq, Eq)]
 pub struct Line {
     pub reference: i128,
     pub synthetic: i128,
+    pub remainder: i128,
     pub rate: i128,
 }
 
@@ -78,15 +80,24 @@ impl Request {
     }
 }
 
-/// The line through (reference, synthetic) with this rate.
-fn line(reference: i128, synthetic: i128, rate: i128) -> Line {
-    Line { reference, synthetic, rate }
+/// The line through a whole value at the reference time, with this rate.
+fn set(reference: i128, synthetic: i128, rate: i128) -> Line {
+    Line { reference, synthetic, remainder: 0, rate }
+}
+
+/// The line through a value in millionths at the reference time, with this rate (02, R-7).
+fn through(reference: i128, exact: i128, rate: i128) -> Line {
+    Line { reference, synthetic: exact.div_euclid(MILLION), remainder: exact.rem_euclid(MILLION), rate }
+}
+
+/// The line's value at t in millionths, never rounded.
+pub fn exact(line: &Line, t: i128) -> i128 {
+    line.synthetic * MILLION + line.remainder + (t - line.reference) * (MILLION + line.rate)
 }
 
 /// The line's value at t, rounded down also before the line's reference time, in the range or out of it.
 pub fn value(line: &Line, t: i128) -> i128 {
-    let product = (t - line.reference) * (MILLION + line.rate);
-    line.synthetic + product.div_euclid(MILLION)
+    exact(line, t).div_euclid(MILLION)
 }
 
 /// Whether a time or value lies outside 0..END, both ends permitted.
@@ -119,7 +130,7 @@ pub fn create(word: u8, backstop: i64, now: i64) -> (u8, Option<Clock>) {
         word,
         backstop,
         latest: now,
-        line: auto_start.then_some(line(0, 0, 0)),
+        line: auto_start.then_some(set(0, 0, 0)),
         error: i128::from(u64::MAX), // unknown
         generation: 1,
     };
@@ -162,9 +173,9 @@ pub fn new_line(clock: &Clock, request: &Request, now: i128) -> Option<Line> {
     let new_a = i128::from(request.rate);
     let old_a = clock.line.unwrap_or_default().rate;
     match (request.has(SYNTHETIC), request.has(RATE)) {
-        (true, false) => Some(line(p, s, old_a)),
-        (false, true) => clock.line.map(|old| line(p, value(&old, p), new_a)),
-        (true, true) => Some(line(p, s, new_a)),
+        (true, false) => Some(set(p, s, old_a)),
+        (false, true) => clock.line.map(|old| through(p, exact(&old, p), new_a)),
+        (true, true) => Some(set(p, s, new_a)),
         (false, false) => None,
     }
 }

@@ -9,6 +9,6 @@ mod clock;
 mod ideal;
 mod slip;
 
-pub use clock::{Clock, Details, Line, MILLION, Request, create, details, new_line, read, update, value};
+pub use clock::{Clock, Details, Line, MILLION, Request, create, details, exact, new_line, read, update, value};
 pub use ideal::{Ideal, ideal_after, ideal_at_creation};
 pub use slip::{read_slip, slip_length, write_slip};

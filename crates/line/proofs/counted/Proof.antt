@@ -1,4 +1,4 @@
-use mathlib.Core.Path.{_≡_, ap, _∙_}
+use mathlib.Core.Path.{_≡_, refl, ap, _∙_}
 use mir.Syntax.{w32, w64}
 use mir.Val.{toZ, ofZ}
 use Rattle.line.specs.Line.{slope}
@@ -15,9 +15,10 @@ returns c =
     record {
       reference = rw r at (c .before .before .natural .ensures);
       synthetic = rw y at (c .before .natural2 .ensures);
+      remainder = refl;
       slope = c .slope .ensures ∙ ap slope a;
     }
 
 pub counted-spec : {M : Type 1} → statement M
 counted-spec =
-    tie.close (tie.spec (λ c κs. search needs) (λ c κs. search needs) (λ c κs. search needs) returns)
+    tie.close (tie.spec (λ c κs. search needs) (λ c κs. search needs) (λ c. search needs) (λ c κs. search needs) returns)

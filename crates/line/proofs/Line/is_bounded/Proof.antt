@@ -48,4 +48,4 @@ returns c =
     simp (reference s, synthetic s, rate s, toZ-ofZ w64 _ (s .fits .«end»), toZ-ofZ w32 _ (s .fits .widest), lowest s)
 
 pub is-bounded-spec : {M : Type 1} → statement M
-is-bounded-spec = tie.close (tie.spec sub-result returns)
+is-bounded-spec = tie.close (tie.spec (λ c. search needs) sub-result returns)

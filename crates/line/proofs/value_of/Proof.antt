@@ -4,8 +4,8 @@ use mir.Val.{toZ, ofZ}
 use Rattle.line.specs.declared.Value.the-variants.{Within}
 use Rattle.line.proofs.FourAnswers.{is-above, is-up, is-below, is-down}
 use borrow.Author.Needs.{needs}
-use Rattle.line.proofs.drawn.Statement.{statement}
-use Rattle.line.proofs.drawn.Tie as tie
+use Rattle.line.proofs.value_of.Statement.{statement}
+use Rattle.line.proofs.value_of.Tie as tie
 
 returns : tie.Need-returns
 returns c =
@@ -35,14 +35,15 @@ returns-4 c =
     let back : toZ w64 (ofZ w64 (c .signed2 .result)) ≡ c .signed2 .result = search needs in
     ap Within (back ∙ c .signed2 .ensures) ∙ is-down (s .args .line) (s .pre .0) (s .args .t) _ (if1 .if1 .left) (if3 .before .scaled2 .ensures) (if3 .if3 .left)
 
-pub drawn-spec : {M : Type 1} → statement M
-drawn-spec =
+pub value-of-spec : {M : Type 1} → statement M
+value-of-spec =
     tie.close
     (tie.spec
     (λ c κs. search needs)
     (λ c. search needs)
     (λ c. search needs)
     (λ c κs. search needs)
+    (λ c. search needs)
     (λ c. search needs)
     (λ c. search needs)
     (λ c κs. search needs)
