@@ -12,7 +12,8 @@ use Rattle.tables.proofs.Tables.{test, passed, nothing-told}
 use Rattle.line.specs.Line.{line, valueAt, isZeros, bounded, reaches}
 use Rattle.line.specs.declared.Line.{Line}
 use Rattle.line.proofs.Linear.{≤ℤ-trans}
-use Rattle.line.proofs.Laws.{four, value-identity, reaches-early, zeros-are}
+use Rattle.line.proofs.Tests.{four}
+use Rattle.line.proofs.Laws.{value-identity, reaches-early, zeros-are}
 use Rattle.line.specs.Numbers.{million, outside}
 use Rattle.clock.specs.Numbers.{END, MAX_RATE, timeOutside, rateOutside}
 use Rattle.clock.specs.Clock.{autoStart, isRunning, byteOf, identity, Drawable, Valid}

@@ -1,18 +1,17 @@
 -- The laws of lines that callers use: no caller unfolds a line's value.
 use mathlib.Core.Path.{_≡_, refl, ap, _∙_}
-use mathlib.Core.Bool.{Bool, _&&_}
 use Prim.Native.Nat.{ℕ, _<_}
 use native.Mathlib.Nat.{mul-le-mul-right, add-mul}
 use native.Mathlib.Omega.{arith}
 use lib.IntN.{ℤ, pos, negsuc, _+ℤ_, _-ℤ_, _*ℤ_, +ℤ-idr, +ℤ-invr, zero-*ℤ}
 use lib.Signed.{leZ, _≤ℤ_, leZ-yes}
 use lib.Dec.{T, eqb, eqb→eq}
-use mir.Facts.{and-yes}
 use Rattle.line.specs.Numbers.{million, floorDiv, floorMod, isZero}
 use Rattle.line.specs.Line.{line, zeroLine, slope, exactAt, valueAt, remainderAt, turned, isZeros, reaches, Rising}
 use Rattle.line.specs.declared.Line.{Line}
 use Rattle.line.proofs.Linear.{up, dn, le-lin, lin-le, ≤-lin, lin-≤, lin-≡, add-lin, minus-lin, times-lin, Floors, floor-lin, rest-lin}
 use Rattle.line.proofs.Slopes.{steep}
+use Rattle.line.proofs.Tests.{four}
 
 -- ---- the exact value
 
@@ -120,14 +119,6 @@ value-identity t =
     let d = t -ℤ pos 0 in
     let p = d *ℤ pos million in
     lin-≡ (valueAt zeroLine t) t (omega (arith, add-lin (pos 0) p, value-floors zeroLine t, times-lin d million, minus-lin t (pos 0)))
-
--- the parts of a test of four
-pub four : (a b c d : Bool) → T (a && b && c && d) → T a × T b × T c × T d
-four a b c d t =
-    let abcd = and-yes (a && b && c) d t in
-    let abc = and-yes (a && b) c (abcd .0) in
-    let ab = and-yes a b (abc .0) in
-    (ab .0, ab .1, abc .1, abcd .1)
 
 zero-is : (z : ℤ) → T (isZero z) → z ≡ pos 0
 zero-is (pos n) t = ap pos (eqb→eq n 0 t)

@@ -4,4 +4,5 @@ pub mod Slopes
 pub mod ByParts
 pub mod FourAnswers
 pub mod Placed
+pub mod Tests
 pub mod Laws

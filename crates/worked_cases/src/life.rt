@@ -1,7 +1,6 @@
 // A clock's life on one line: each call writes what is asked and what the clock answers.
 use clock::Clock;
 use clock::Created;
-use clock::Detailed;
 use clock::Reading;
 use clock::Request;
 
@@ -34,8 +33,7 @@ pub fn update(clock: Clock, request: Request, now: i64) -> Clock {
 
 // The same request at each nanosecond up to the last, told as one. The generation shows whether all were taken.
 pub fn again(clock: Clock, request: Request, last: u32) -> Clock {
-    print::write(b"; at 1 to ");
-    print::number(last as u64);
+    named_number(b"; at 1 to ", last as u64);
     arguments(request);
     repeated(clock, request, last)
 }
@@ -58,25 +56,15 @@ pub fn read(clock: Clock, now: i64) {
 // The generation as the details tell it.
 pub fn generation(clock: Clock, now: i64) {
     then(now);
-    counted(clock.details(now));
-}
-
-fn counted(detailed: Detailed) {
-    let details = detailed.details;
-    print::write(b" generation ");
-    print::number(details.generation as u64);
+    let details = clock.details(now).details;
+    named_number(b" generation ", details.generation as u64);
 }
 
 // The remainder as the details tell it.
 pub fn remainder(clock: Clock, now: i64) {
     then(now);
-    remainder_told(clock.details(now));
-}
-
-fn remainder_told(detailed: Detailed) {
-    let line = detailed.details.line;
-    print::write(b" remainder ");
-    print::number(line.remainder as u64);
+    let line = clock.details(now).details.line;
+    named_number(b" remainder ", line.remainder as u64);
 }
 
 fn told(reading: Reading) {
@@ -150,12 +138,15 @@ fn argument(flagged: bool, name: &[u8], x: i64) {
 
 fn bound(flagged: bool, error: u64) {
     if flagged {
-        print::write(b" error ");
-        print::number(error);
+        named_number(b" error ", error);
     }
 }
 
 fn refused(refusal: u8) {
-    print::write(b": refused ");
-    print::number(refusal as u64);
+    named_number(b": refused ", refusal as u64);
+}
+
+fn named_number(name: &[u8], n: u64) {
+    print::write(name);
+    print::number(n);
 }

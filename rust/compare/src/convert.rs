@@ -14,6 +14,11 @@ pub fn narrow_request(request: &second::Request) -> Request {
     Request { word, synthetic, reference, rate, error }
 }
 
+/// The time at which the request's new line begins: its reference, if that is flagged, else now.
+pub fn point(request: &Request, now: i64) -> i64 {
+    if request.word & REFERENCE != 0 { request.reference } else { now }
+}
+
 /// The request with the arguments that it doesn't flag taken from another.
 pub fn or_else(request: &Request, other: &Request) -> Request {
     let pick = |flag: u64| if request.word & flag != 0 { request } else { other };

@@ -4,7 +4,7 @@ use cementoad_sys::*;
 use second::MILLION;
 
 use crate::call::Call;
-use crate::convert::{value, wide_request};
+use crate::convert::{point, value, wide_request};
 use crate::made_up;
 use crate::numbers::{Rng, clamp};
 
@@ -72,10 +72,10 @@ fn request(rng: &mut Rng, clock: &Clock, now: i64) -> Request {
     let error = rng.error();
     let reference = if flagged(rng, REFERENCE) { reference(rng, clock, now) } else { rng.edge() };
     let new_rate = if word & RATE != 0 { rate } else { clock.line.rate };
-    let point = if word & REFERENCE != 0 { reference } else { now };
-    let from = Line { reference: point, synthetic: 0, remainder: 0, rate: new_rate };
+    let unset = Request { word, synthetic: 0, reference, rate, error };
+    let from = Line { reference: point(&unset, now), rate: new_rate, ..Line::default() };
     let synthetic = if flagged(rng, SYNTHETIC) { synthetic(rng, clock, now, &from) } else { rng.edge() };
-    Request { word, synthetic, reference, rate, error }
+    Request { synthetic, ..unset }
 }
 
 /// What is flagged: every combination, but more often one that the clock might accept.

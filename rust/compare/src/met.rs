@@ -7,7 +7,7 @@ use cementoad_sys::*;
 use second::{MILLION, new_line, slip_length};
 
 use crate::call::Call;
-use crate::convert::{exact, value, wide_clock, wide_request};
+use crate::convert::{exact, point, value, wide_clock, wide_request};
 use crate::is_clock::{PARTS, failing};
 
 /// How often each is to be met.
@@ -221,7 +221,7 @@ impl Met {
     /// What becomes of a line with a remainder where an update is taken (02, R-7).
     fn remainder(&mut self, clock: &Clock, request: &Request, now: i64) {
         let (old, flags) = (&clock.line, request.word & (SYNTHETIC | RATE));
-        let point = if request.word & REFERENCE != 0 { request.reference } else { now };
+        let point = point(request, now);
         let taken = self.refusal == NO_REFUSAL && old.remainder != 0;
         let turned = taken && flags == RATE;
         let more = value(old, point) > value(&Line { remainder: 0, ..*old }, point);

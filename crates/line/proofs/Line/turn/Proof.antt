@@ -46,8 +46,8 @@ module _ (c : tie.After-natural) where
       ap (lineOf (start .args .point) rem (start .args .rate)) (is ∙ e ∙ ap placed (exact-value old numbers (c .before .counted .ensures) (start .args .point) at-is))
       ∙ line-of (start .args .point) rem (start .args .rate) (valueAt old (start .args .point))
 
-  left : {r : ℕ} → r ≡ floorMod (exactOf numbers at) million → r ≡ remainderAt old (start .args .point)
-  left e = e ∙ exact-remainder old numbers (c .before .counted .ensures) (start .args .point) at-is
+  remainder-is : {r : ℕ} → r ≡ floorMod (exactOf numbers at) million → r ≡ remainderAt old (start .args .point)
+  remainder-is e = e ∙ exact-remainder old numbers (c .before .counted .ensures) (start .args .point) at-is
 
 remainder-of-requires : tie.Need-remainder-of-requires
 remainder-of-requires c κs =
@@ -68,7 +68,7 @@ returns-2 c =
     let x = known .value .given .0 .0 in
     let is : Within x ≡ v .value-of .result = search needs in
     let back : toZ w64 (ofZ w64 x) ≡ x = search needs in
-    simp (left (v .before) (c .remainder-of .ensures), toZ-ofZ w64 (s .args .point) (s .fits .point), toZ-ofZ w32 (s .args .rate) (s .fits .rate), back)
+    simp (remainder-is (v .before) (c .remainder-of .ensures), toZ-ofZ w64 (s .args .point) (s .fits .point), toZ-ofZ w32 (s .args .rate) (s .fits .rate), back)
     (told (v .before) is (v .value-of .ensures))
 
 returns-3 : tie.Need-returns-3
