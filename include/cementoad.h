@@ -46,8 +46,8 @@ uint32_t cementoad_abi(void);
 /* The bytes of the longest slip. */
 #define CEMENTOAD_LONGEST_SLIP 27
 
-/* The bits of a creation word: readings never fall while the times don't; no update moves what the clock shows at that
- * now while it runs; the clock starts at creation. */
+/* The bits of a creation word: readings never fall while the times don't; no update moves the clock at that now while it
+ * runs, not by a millionth of a nanosecond; the clock starts at creation. */
 #define CEMENTOAD_MONOTONIC UINT8_C(128)
 #define CEMENTOAD_CONTINUOUS UINT8_C(64)
 #define CEMENTOAD_AUTO_START UINT8_C(32)

@@ -484,7 +484,7 @@ fn new_line(request: Request, old: Line, point: i64) -> Redrawn
         Redrawn::Drawn(Line {
             reference: point,
             synthetic: request.synthetic,
-            remainder: 0,
+            remainder: 0, // a value set clears it
             rate,
         })
     } else if flags.rate {

@@ -1,15 +1,16 @@
 -- A table of refusals: numbered tests in the order in which they are made, and the answer that it gives.
 --
 -- How to read the definitions: `f : A → B` says what f takes and gives, and the lines below it what that is, case by
--- case; `abbrev`, `unfoldable`, `pub`, `Type 0` and names in braces matter to the prover alone. ℕ are the whole
--- numbers from 0 on, ℤ all of them: `pos n` is n, `negsuc n` is -1 - n, and `+ℤ`, `-ℤ`, `*ℤ` work on them. `ltZ a b`
+-- case; `abbrev`, `unfoldable`, `pub` and names in braces matter to the prover alone. ℕ are the whole numbers from 0
+-- on, ℤ all of them: `pos n` is n, `negsuc n` is -1 - n, `negℤ z` is -z, and `+ℤ`, `-ℤ`, `*ℤ` work on them. `ltZ a b`
 -- is a < b and `leZ a b` a ≤ b (`ltb`, `leb` of ℕ), `eqb` tests whether two are equal; `not`, `&&` and `||` are as in
 -- code. `cond b x y` is x where b holds, else y; `let y = .. in` names a part; `λ n. x` is the function that gives x
 -- for n. `c .word` is the field `word` of c, and `record { .. }` a struct by its fields; `some x` is a value, `none`
 -- is none. `x ∷ xs` is a list with x in front, `[]` the empty one, `++` joins two, and `getD xs i 0` is number i of a
--- list, from 0 on; `suc n` is n + 1. In statements `T b` says that b holds and `a ≡ b` that they are equal; `×` is and,
--- `⊎` is or, `A → B` is if A then B, and `(t : ℤ) → ..` says it for every t; a record of statements says that each of
--- its fields holds, `Unit` says nothing, and `⊥` is never true.
+-- list, from 0 on; `suc n` is n + 1. A `Type 0` is a kind of values or a statement. In statements `T b` says that b
+-- holds, `a ≡ b` that they are equal, and `a ≤ℤ b` (`≤` of ℕ) that a is at most b; `×` is and, `⊎` is or, `A → B` is
+-- if A then B, and `(t : ℤ) → ..` says it for every t; a record of statements says that each of its fields holds,
+-- `Unit` says nothing, and `⊥` is never true.
 use mathlib.Core.Bool.{Bool, true, false, not, cond}
 use mathlib.Core.List.{List, [], _∷_}
 use mathlib.Core.Logic.{_⊎_}

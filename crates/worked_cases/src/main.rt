@@ -245,7 +245,7 @@ fn remainders() {
     print::end();
 }
 
-// A thousand rates lose nothing.
+// A thousand changes of the rate lose nothing.
 fn trims() {
     head(b"R-", 7);
     let c = create(PLAIN, 0, 0);
