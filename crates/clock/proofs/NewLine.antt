@@ -54,20 +54,6 @@ module _ (c : Clock) (u : Request) (now : ℤ) (e : first (guarded c (requestTab
 
 -- ---- the effect table
 
--- a value in range is drawn
-pub set-drawn : (a : Bool) (T₀ : Line) (P S new : ℤ) → InRange S → Drawn (line P S 0 (cond a new (T₀ .rate))) ≡ held (effect true a T₀ P S new)
-unfolding effect
-set-drawn true T₀ P S new i = sym (drawn-in (line P S 0 new) (range-storable i))
-set-drawn false T₀ P S new i = sym (drawn-in (line P S 0 (T₀ .rate)) (range-storable i))
-
-pub turned-drawn : (T₀ : Line) (P S new : ℤ) → held (turned T₀ P new) ≡ held (effect false true T₀ P S new)
-unfolding effect
-turned-drawn T₀ P S new = refl
-
-pub kept-drawn : (T₀ : Line) (P S new : ℤ) → Drawable T₀ → Drawn T₀ ≡ held (effect false false T₀ P S new)
-unfolding effect
-kept-drawn T₀ P S new o = sym (drawn-in T₀ (range-storable (o .synthetic)))
-
 -- a new line, but for its S0
 pub record Begins (l : Line) : Type 0 where
   pub reference : InRange (l .reference)
@@ -91,6 +77,20 @@ unfolding effect
 effect-kept true a T₀ P S new n = absurd n
 effect-kept false true T₀ P S new n = absurd n
 effect-kept false false T₀ P S new n = refl
+
+-- a value in range is drawn
+pub set-drawn : (a : Bool) (T₀ : Line) (P S new : ℤ) → InRange S → Drawn (line P S 0 (cond a new (T₀ .rate))) ≡ held (effect true a T₀ P S new)
+unfolding effect
+set-drawn true T₀ P S new i = sym (drawn-in (line P S 0 new) (range-storable i))
+set-drawn false T₀ P S new i = sym (drawn-in (line P S 0 (T₀ .rate)) (range-storable i))
+
+pub turned-drawn : (T₀ : Line) (P S new : ℤ) → held (turned T₀ P new) ≡ held (effect false true T₀ P S new)
+unfolding effect
+turned-drawn T₀ P S new = refl
+
+pub kept-drawn : (T₀ : Line) (P S new : ℤ) → Drawable T₀ → Drawn T₀ ≡ held (effect false false T₀ P S new)
+unfolding effect
+kept-drawn T₀ P S new o = sym (drawn-in T₀ (range-storable (o .synthetic)))
 
 -- ---- the new line
 
