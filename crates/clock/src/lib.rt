@@ -201,11 +201,11 @@ impl Clock {
         requires { ⌜ taken ≡ isClock self ⌝ }
         ensures { λ r. ⌜ r ≡ reading self now ⌝ }
     {
-        let refusal = self.time_refusal(taken, now);
-        if refusal == 0 {
+        if self.is_timely(taken, now) {
             let value = self.clock_value(now);
             read_answer(value)
         } else {
+            let refusal = self.time_refusal(taken, now);
             Reading { refusal, value: 0 }
         }
     }
@@ -258,6 +258,14 @@ impl Clock {
         let r = next(0, !taken, refusal::NOT_A_CLOCK);
         let r = next(r, outside, refusal::NOW_OUTSIDE);
         next(r, early, refusal::NOW_EARLY)
+    }
+
+    // Whether none of these applies, without working out which.
+    fn is_timely(self, taken: bool, now: i64) -> bool
+        requires { ⌜ taken ≡ isClock self ⌝ }
+        ensures { λ r. ⌜ r ≡ eqb (first (guarded self (timeTable self now))) 0 ⌝ }
+    {
+        taken & !arguments::is_outside(now) & !(now < self.latest)
     }
 
     // That of what is no clock, and rules 1 to 11 and 22 of an update: the time, the request, and what the clock
