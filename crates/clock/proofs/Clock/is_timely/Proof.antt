@@ -14,12 +14,13 @@ use borrow.Author.Needs.{needs}
 use Rattle.clock.proofs.Clock.is_timely.Statement.{statement}
 use Rattle.clock.proofs.Clock.is_timely.Tie as tie
 
-none-applies : (taken outside early : Bool) →
+-- the quick test holds exactly where none of the three rows does
+three-fail : (taken outside early : Bool) →
     (taken && not outside && not early) ≡ eqb (first (255 when not taken ∷ 1 when outside ∷ 2 when early ∷ [])) 0
-none-applies false outside early = refl
-none-applies true true early = refl
-none-applies true false true = refl
-none-applies true false false = refl
+three-fail false outside early = refl
+three-fail true true early = refl
+three-fail true false true = refl
+three-fail true false false = refl
 
 latest : (s : tie.Start) → toZ w64 (ofZ w64 (s .args .self .latest)) ≡ s .args .self .latest
 latest s = search needs
@@ -31,7 +32,7 @@ returns c =
     let s = outside .before in
     let now = toZ-ofZ w64 _ (s .fits .now) in
     let e : outside .is-outside .result ≡ timeOutside (s .args .now) = outside .is-outside .ensures ∙ simp now in
-    simp (e, s .pre, now, latest s) (none-applies (isClock (s .args .self)) (timeOutside (s .args .now)) (ltZ (s .args .now) (s .args .self .latest)))
+    simp (e, s .pre, now, latest s) (three-fail (isClock (s .args .self)) (timeOutside (s .args .now)) (ltZ (s .args .now) (s .args .self .latest)))
 
 pub is-timely-spec : {M : Type 1} → statement M
 is-timely-spec = tie.close (tie.spec (λ c κs. search needs) returns)
