@@ -6,3 +6,5 @@ pub mod Writing
 pub mod Records
 pub mod Turns
 pub mod Buffers
+pub mod Cells
+pub mod Carried

@@ -1,22 +1,17 @@
 // Packed fields: numbers of 0 to 64 bits that stand in bytes one after another, most significant bit first.
 ghost use mathlib.Core.Path.{_≡_};
+ghost use mathlib.Core.List.{[], _∷_};
 ghost use Prim.Native.Nat.{_+_, _-_, _/_, _%_, _^_, _<_};
 ghost use lib.ListN.{length};
 ghost use Rattle.fields.specs.Bits.{digits, row};
 ghost use Rattle.fields.specs.Field.{field, over, Inside};
 ghost use Rattle.fields.specs.Record.{packed, fields, AllInside};
-ghost use Rattle.fields.specs.Reader.{readerAt, movedOn, taken};
+ghost use Rattle.fields.specs.Reader.{readerAt, movedOn};
 
 // The lent bytes, and the place of the next field in bits.
 pub struct Reader<'a> {
     src: &'a [u8],
     place: usize,
-}
-
-// A field, and the place after it.
-pub struct Taken {
-    pub value: u64,
-    pub next: usize,
 }
 
 impl<'a> Reader<'a> {
@@ -46,34 +41,49 @@ impl<'a> Reader<'a> {
     }
 }
 
-// Takes a field through a reader that is moved on. Reading a record, pass `next` on as the place of the next field.
-pub fn take(bytes: &[u8], place: usize, width: usize) -> Taken
+// Takes one field, through a reader of its own.
+pub fn take(bytes: &[u8], place: usize, width: usize) -> u64
     requires { ⌜ Inside (now bytes) place width ⌝ }
-    ensures { λ r. ⌜ r ≡ taken (now (bytes .entry)) place width ⌝ }
+    ensures { λ r. ⌜ r ≡ field (now (bytes .entry)) place width ⌝ }
 {
     let reader = Reader::new(bytes, place);
-    let value = reader.field(width);
-    let moved = reader.past(width);
-    Taken {
-        value,
-        next: moved.place,
-    }
+    reader.field(width)
 }
 
-// Takes fields of the given widths, one after another from a place on.
-pub fn take_all(bytes: &[u8], place: usize, widths: &[usize], values: &mut [u64])
-    requires { ⌜ (length (now values) ≡ length (now widths)) × AllInside (now bytes) place (now widths) ⌝ }
-    ensures { λ _. ⌜ now (values .exit) ≡ fields (now (bytes .entry)) place (now (widths .entry)) ⌝ }
+// The fields of six widths, one after another from the first bit on.
+pub fn take_six(bytes: &[u8], widths: [usize; 6]) -> [u64; 6]
+    requires { ⌜ AllInside (now bytes) 0 widths ⌝ }
+    ensures { λ r. ⌜ r ≡ fields (now (bytes .entry)) 0 widths ⌝ }
 {
-    let mut p = place;
-    let mut i: usize = 0;
-    while i < widths.len() {
-        let width = widths[i];
-        let t = take(bytes, p, width);
-        values[i] = t.value;
-        p = t.next;
-        i += 1;
-    }
+    six_fields(
+        bytes,
+        widths[0],
+        widths[1],
+        widths[2],
+        widths[3],
+        widths[4],
+        widths[5],
+    )
+}
+
+// One reader is made on the bytes and carried through the six fields. A field of width 0 leaves it where it is.
+fn six_fields(bytes: &[u8], a: usize, b: usize, c: usize, d: usize, e: usize, f: usize) -> [u64; 6]
+    requires { ⌜ AllInside (now bytes) 0 (a ∷ b ∷ c ∷ d ∷ e ∷ f ∷ []) ⌝ }
+    ensures { λ r. ⌜ r ≡ fields (now (bytes .entry)) 0 (a ∷ b ∷ c ∷ d ∷ e ∷ f ∷ []) ⌝ }
+{
+    let reader = Reader::new(bytes, 0);
+    let first = reader.field(a);
+    let reader = reader.past(a);
+    let second = reader.field(b);
+    let reader = reader.past(b);
+    let third = reader.field(c);
+    let reader = reader.past(c);
+    let fourth = reader.field(d);
+    let reader = reader.past(d);
+    let fifth = reader.field(e);
+    let reader = reader.past(e);
+    let sixth = reader.field(f);
+    [first, second, third, fourth, fifth, sixth]
 }
 
 // The field of `width` bits from a place on, a bit at a time.

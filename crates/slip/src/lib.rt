@@ -9,7 +9,7 @@ ghost use lib.ListN.{length, drop};
 ghost use Rattle.tables.specs.Tables.{first};
 ghost use Rattle.clock.specs.Clock.{InRange, Permitted};
 ghost use Rattle.clock.specs.Update.{valuesOutside, rateTooWide};
-ghost use Rattle.fields.specs.Record.{total, fields, AllInside};
+ghost use Rattle.fields.specs.Record.{total};
 ghost use Rattle.slip.specs.Layout.{bare, timeWidth, rateField, rateOf, rateFieldEnd, flaggedWidth, widths, slipLength, layout};
 ghost use Rattle.slip.specs.Reading.{refusedBy, readingFront, readingSlip};
 ghost use Rattle.slip.specs.Writing.{valuesOf, slipOf, writingTable, writing, outcome};
@@ -93,7 +93,7 @@ fn read_front(bytes: &[u8]) -> Received
         return refused(refusal::TOO_SHORT);
     }
     let header = fields::take(bytes, 0, HEADER_BITS);
-    let asked = bare(header.value * HEADER_UNIT);
+    let asked = bare(header * HEADER_UNIT);
     if asked.word_wrong() {
         return refused(refusal::WORD_WRONG);
     }
@@ -101,7 +101,7 @@ fn read_front(bytes: &[u8]) -> Received
         return refused(refusal::TOO_SHORT);
     }
     let layout = layout_of(asked.word);
-    let values = take_all(bytes, layout);
+    let values = fields::take_six(bytes, layout);
     judged(asked, values)
 }
 
@@ -214,16 +214,6 @@ fn layout_of(word: u64) -> [usize; 6]
     let w = widths_of(word);
     let padding = 8 * slip_length(word) - bits_of(word);
     [w[0], w[1], w[2], w[3], w[4], padding]
-}
-
-// The fields of the given widths, one after another from the first bit on.
-fn take_all(bytes: &[u8], widths: [usize; 6]) -> [u64; 6]
-    requires { ⌜ AllInside (now bytes) 0 widths ⌝ }
-    ensures { λ r. ⌜ r ≡ fields (now (bytes .entry)) 0 widths ⌝ }
-{
-    let mut values = [0u64; 6];
-    fields::take_all(bytes, 0, &widths, &mut values);
-    values
 }
 
 // Why a request can't be written into a buffer of this size, 0 where it can.

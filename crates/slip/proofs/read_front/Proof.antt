@@ -5,9 +5,7 @@ use Prim.Native.Nat.{ℕ, _≤_, _<_}
 use native.Mathlib.Omega.{arith}
 use lib.ListN.{length}
 use Rattle.clock.specs.Update.{wordWrong}
-use Rattle.fields.specs.Field.{field}
 use Rattle.fields.specs.Record.{fields, AllInside}
-use Rattle.fields.specs.declared.Taken.{Taken}
 use Rattle.fields.proofs.Reading.{field-lt}
 use Rattle.slip.specs.Layout.{headerWidth, bare, slipLength, layout}
 use Rattle.slip.specs.Reading.{headed, valuesIn}
@@ -25,13 +23,10 @@ bytes c =
     let known = c .before in
     known .before .args .bytes .now
 
-abbrev taking : tie.After-struct-known → tie.Else1
-taking c =
+abbrev there : tie.After-bare → tie.Else1
+there c =
     let take = c .before in
     take .before
-
-abbrev there : tie.After-bare → tie.Else1
-there c = taking (c .before)
 
 abbrev header : tie.Else2 → tie.After-bare
 header c =
@@ -46,20 +41,17 @@ word c =
 abbrev all : tie.Else3 → List ℕ
 all c = bytes (there (header (word c)))
 
-abbrev values : tie.After-take-all → tie.Else3
+abbrev values : tie.After-take-six → tie.Else3
 values c =
     let layout = c .before in
     layout .before
 
 -- ---- what each step says of the bytes
 
-taken : (c : tie.After-struct-known) → c .before .take .result .value ≡ field (bytes (taking c)) 0 headerWidth
-taken c = ap (λ (t : Taken). t .value) (c .before .take .ensures)
-
 asked : (c : tie.After-bare) → c .bare .result ≡ headed (bytes (there c))
 asked c =
-    let header = c .before in
-    c .bare .ensures ∙ header-word (bytes (there c)) (header .before .take .result .value) (taken header)
+    let take = c .before in
+    c .bare .ensures ∙ header-word (bytes (there c)) (take .take .result) (take .take .ensures)
 
 known : (c : tie.Else2) → wordWrong (headed (bytes (there (header c)))) ≡ false
 known c = ap wordWrong (sym (asked (header c))) ∙ sym (c .before .word-wrong .ensures) ∙ c .if2 .left
@@ -78,9 +70,9 @@ laid c =
     let u = bare-step .bare .result in
     c .layout-of .ensures ∙ layout-alike (bare (u .word)) u refl ∙ ap layout (asked bare-step)
 
-gathered : (c : tie.After-take-all) → c .take-all .result ≡ valuesIn (all (values c))
+gathered : (c : tie.After-take-six) → c .take-six .result ≡ valuesIn (all (values c))
 unfolding valuesIn
-gathered c = c .take-all .ensures ∙ ap (fields (all (values c)) 0) (laid (c .before))
+gathered c = c .take-six .ensures ∙ ap (fields (all (values c)) 0) (laid (c .before))
 
 -- ---- the needs
 
@@ -92,7 +84,8 @@ returns c =
 
 mul-bare : tie.Need-mul-bare
 mul-bare c =
-    record { fits = omega (arith, taken c, field-lt (bytes (taking c)) 0 headerWidth (omega (arith, taking c .if1 .left))) }
+    let test = c .before in
+    record { fits = omega (arith, c .take .ensures, field-lt (bytes test) 0 headerWidth (omega (arith, test .if1 .left))) }
 
 returns-2 : tie.Need-returns-2
 returns-2 c =
@@ -112,8 +105,8 @@ returns-3 c =
     c .refused3 .ensures
     ∙ front-few (bytes first) (first .if1 .left) (known word) (subst (λ (n : ℕ). length (bytes first) < n) (called length-step) (test .if3 .taken))
 
-take-all-requires : tie.Need-take-all-requires
-take-all-requires c κs =
+take-six-requires : tie.Need-take-six-requires
+take-six-requires c κs =
     let l = all (c .before) in
     subst (AllInside l 0) (sym (laid c)) (layout-inside (headed l) l (enough (c .before)))
 
@@ -145,6 +138,6 @@ read-front-spec =
     (λ c κs. search needs)
     returns-3
     (λ c κs. search needs)
-    take-all-requires
+    take-six-requires
     judged-requires
     returns-4)
