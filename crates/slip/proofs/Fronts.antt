@@ -16,9 +16,10 @@ use Rattle.fields.specs.Field.{field}
 use Rattle.fields.specs.Record.{fields, Fit}
 use Rattle.fields.proofs.Records.{fields-fit}
 use Rattle.slip.specs.Layout.{headerWidth, wordOf, bare, timeWidth, rateFieldEnd, widths, slipLength, layout, headerLength}
-use Rattle.slip.specs.Reading.{headed, valuesIn, rateIn, headerTable, fieldsTable, frontTable, slipTable, received, zeroRequest, refusedBy, readingFront, readingSlip}
-use Rattle.slip.specs.Parts.{judging, Small}
+use Rattle.slip.specs.Reading.{headed, valuesIn, rateIn, headerTable, fieldsTable, frontTable, slipTable, received, refusedBy, readingFront, readingSlip}
+use Rattle.slip.specs.Parts.{takenFront, fronting, refusedFront, judging, Small}
 use Rattle.slip.specs.declared.Received.{Received}
+use Rattle.slip.specs.declared.Front.{Front}
 use Rattle.slip.proofs.Layouts.{flagged-le, total-layout, length-alike}
 
 pub rate-told : (values : List ℕ) → first (fieldsTable values) ≡ 0 → rateIn values ≤ rateFieldEnd
@@ -32,22 +33,23 @@ module _ (bytes : List ℕ) where
   unfolding headed
   header-word header e = ap (λ (h : ℕ). bare (wordOf h)) e
 
-  pub front-none : length bytes < headerLength → refusedBy 18 ≡ readingFront bytes
-  unfolding readingFront frontTable headerTable
+  pub front-none : length bytes < headerLength → refusedFront 18 ≡ fronting bytes
+  unfolding fronting frontTable headerTable
   front-none h = simp (lt-ltb (length bytes) headerLength h)
 
   module _ (some : headerLength ≤ length bytes) where
-    pub front-word : wordWrong (headed bytes) ≡ true → refusedBy 3 ≡ readingFront bytes
-    unfolding readingFront frontTable headerTable
+    pub front-word : wordWrong (headed bytes) ≡ true → refusedFront 3 ≡ fronting bytes
+    unfolding fronting frontTable headerTable
     front-word w = simp (le-ltb (length bytes) headerLength some, w)
 
     module _ (known : wordWrong (headed bytes) ≡ false) where
-      pub front-few : length bytes < slipLength (headed bytes) → refusedBy 18 ≡ readingFront bytes
-      unfolding readingFront frontTable headerTable
+      pub front-few : length bytes < slipLength (headed bytes) → refusedFront 18 ≡ fronting bytes
+      unfolding fronting frontTable headerTable
       front-few h = simp (le-ltb (length bytes) headerLength some, known, lt-ltb (length bytes) (slipLength (headed bytes)) h)
 
-      pub front-judged : slipLength (headed bytes) ≤ length bytes → judging (headed bytes) (valuesIn bytes) ≡ readingFront bytes
-      unfolding readingFront frontTable headerTable judging
+      pub front-judged
+          : slipLength (headed bytes) ≤ length bytes → judging (headed bytes) (valuesIn bytes) (slipLength (headed bytes)) ≡ fronting bytes
+      unfolding fronting frontTable headerTable judging
       front-judged h = simp (le-ltb (length bytes) headerLength some, known, le-ltb (length bytes) (slipLength (headed bytes)) h)
 
   -- every value that is read fits its field
@@ -67,36 +69,65 @@ module _ (bytes : List ℕ) where
 
 -- ---- the strict reading
 
--- as the code has it: the front's answer, the bytes that it called for, and those that are there
+-- of the front's answer, the bytes that it called for, and those that are there
 abbrev pub strictly : Received → ℕ → ℕ → Received
 strictly front called size = cond (eqb (front .refusal) 0 && ltb called size) (refusedBy 20) front
 
--- refusal 20 belongs to the strict reading alone
-pub strict : (bytes : List ℕ) → strictly (readingFront bytes) (slipLength (readingFront bytes .request)) (length bytes) ≡ readingSlip bytes
-unfolding readingFront readingSlip slipTable frontTable headerTable fieldsTable
-strict bytes = go (first (frontTable bytes)) refl
-  where
-    taken : Received
-    taken = received (headed bytes) (valuesIn bytes)
+module _ (bytes : List ℕ) where
+  abbrev taken : Received
+  taken = received (headed bytes) (valuesIn bytes)
 
-    told : ℕ → Received
-    told n = answerTo n taken refusedBy
+  -- refusal 20 belongs to the strict reading alone; what was called for matters where nothing is refused
+  strict-by
+      : (called : ℕ) → (first (frontTable bytes) ≡ 0 → called ≡ slipLength (headed bytes))
+      → strictly (readingFront bytes) called (length bytes) ≡ readingSlip bytes
+  unfolding readingFront readingSlip slipTable frontTable headerTable fieldsTable
+  strict-by called called-for = go (first (frontTable bytes)) refl
+    where
+      told : ℕ → Received
+      told n = answerTo n taken refusedBy
 
-    rest : List Row
-    rest = 20 when ltb (slipLength (headed bytes)) (length bytes) ∷ []
+      rest : List Row
+      rest = 20 when ltb (slipLength (headed bytes)) (length bytes) ∷ []
 
-    clash : (n : ℕ) → suc n ≡ 0 → ⊥
-    clash n e = omega arith
+      clash : (n : ℕ) → suc n ≡ 0 → ⊥
+      clash n e = omega arith
 
-    long : (b : Bool) → cond b (refusedBy 20) taken ≡ told (first (20 when b ∷ []))
-    long true = refl
-    long false = refl
+      long : (b : Bool) → cond b (refusedBy 20) taken ≡ told (first (20 when b ∷ []))
+      long true = refl
+      long false = refl
 
-    go : (n : ℕ) → first (frontTable bytes) ≡ n → strictly (told n) (slipLength (told n .request)) (length bytes) ≡ told (first (frontTable bytes ++ rest))
-    go zero e =
-        ap (λ (k : ℕ). cond (ltb k (length bytes)) (refusedBy 20) taken) (length-alike (taken .request) (headed bytes) refl)
-        ∙ long (ltb (slipLength (headed bytes)) (length bytes))
-        ∙ ap told (sym (first-passed (frontTable bytes) rest tt e))
-    go (suc n) e =
-        ap (λ (b : Bool). cond (b && ltb (slipLength zeroRequest) (length bytes)) (refusedBy 20) (refusedBy (suc n))) (eqb·suc-zero n)
-        ∙ ap told (sym e ∙ sym (first-refused (frontTable bytes) rest (λ z. clash n (sym e ∙ z))))
+      go : (n : ℕ) → first (frontTable bytes) ≡ n → strictly (told n) called (length bytes) ≡ told (first (frontTable bytes ++ rest))
+      go zero e =
+          ap (λ (k : ℕ). cond (ltb k (length bytes)) (refusedBy 20) taken) (called-for e)
+          ∙ long (ltb (slipLength (headed bytes)) (length bytes))
+          ∙ ap told (sym (first-passed (frontTable bytes) rest tt e))
+      go (suc n) e =
+          ap (λ (b : Bool). cond (b && ltb called (length bytes)) (refusedBy 20) (refusedBy (suc n))) (eqb·suc-zero n)
+          ∙ ap told (sym e ∙ sym (first-refused (frontTable bytes) rest (λ z. clash n (sym e ∙ z))))
+
+  -- called for: the length of the request that was read
+  pub strict : strictly (readingFront bytes) (slipLength (readingFront bytes .request)) (length bytes) ≡ readingSlip bytes
+  unfolding readingFront
+  strict =
+      strict-by (slipLength (readingFront bytes .request)) (λ e.
+      ap (λ (n : ℕ). slipLength (answerTo n taken refusedBy .request)) e ∙ length-alike (taken .request) (headed bytes) refl)
+
+  abbrev front : ℕ → Front
+  front n = answerTo n (takenFront (headed bytes) (valuesIn bytes) (slipLength (headed bytes))) refusedFront
+
+  -- what the code reads on the front is what the rules say
+  front-received : fronting bytes .received ≡ readingFront bytes
+  unfolding fronting readingFront
+  front-received = go (first (frontTable bytes))
+    where
+      go : (n : ℕ) → front n .received ≡ answerTo n taken refusedBy
+      go zero = refl
+      go (suc n) = refl
+
+  -- called for: the length that the front hands on, as in the code
+  pub strict-front : strictly (fronting bytes .received) (fronting bytes .length) (length bytes) ≡ readingSlip bytes
+  unfolding fronting
+  strict-front =
+      ap (λ (r : Received). strictly r (fronting bytes .length) (length bytes)) front-received
+      ∙ strict-by (fronting bytes .length) (λ e. ap (λ (n : ℕ). front n .length) e)

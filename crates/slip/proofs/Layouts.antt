@@ -10,6 +10,8 @@ use Rattle.clock.specs.Update.{hasSynthetic, hasReference, hasRate, hasError}
 use Rattle.clock.specs.declared.Request.{Request}
 use Rattle.fields.specs.Bits.{room}
 use Rattle.fields.specs.Record.{total, Narrow, AllInside}
+use Rattle.slip.specs.Parts.{sizes}
+use Rattle.slip.specs.declared.Sizes.{Sizes}
 use Rattle.slip.specs.Layout.{headerWidth, timeWidth, rateWidth, errorWidth, flaggedWidth, bare, widths, slipLength, padding, layout, headerLength, fullWord, longest}
 
 pub flagged-le : (flagged : Bool) (width : ℕ) → flaggedWidth flagged width ≤ width
@@ -91,15 +93,24 @@ module _ (u : Request) where
 
 -- ---- the widths as the code has them
 
-pub widths-sum : (u : Request) (r : List ℕ) → r ≡ widths u → getD r 0 0 + getD r 1 0 + getD r 2 0 + getD r 3 0 + getD r 4 0 ≡ total (widths u)
-unfolding widths
-widths-sum u r e = ap (λ (ws : List ℕ). getD ws 0 0 + getD ws 1 0 + getD ws 2 0 + getD ws 3 0 + getD ws 4 0) e ∙ omega arith
+-- five of them, added up from the front
+abbrev pub sum : List ℕ → ℕ
+sum r = getD r 0 0 + getD r 1 0 + getD r 2 0 + getD r 3 0 + getD r 4 0
 
-pub widths-layout
-    : (u : Request) (r : List ℕ) (p : ℕ) → r ≡ widths u → p ≡ padding u
-    → getD r 0 0 ∷ getD r 1 0 ∷ getD r 2 0 ∷ getD r 3 0 ∷ getD r 4 0 ∷ p ∷ [] ≡ layout u
-unfolding layout widths
-widths-layout u r p e h = ap₂ {C = List ℕ} (λ ws p. getD ws 0 0 ∷ getD ws 1 0 ∷ getD ws 2 0 ∷ getD ws 3 0 ∷ getD ws 4 0 ∷ p ∷ []) e h
+pub widths-sum : (u : Request) (r : List ℕ) → r ≡ widths u → sum r ≡ total (widths u)
+unfolding widths
+widths-sum u r e = ap sum e ∙ omega arith
+
+-- the sizes that come of five widths and their sum
+abbrev sizesBy : List ℕ → ℕ → Sizes
+sizesBy r bits = record {
+  layout = getD r 0 0 ∷ getD r 1 0 ∷ getD r 2 0 ∷ getD r 3 0 ∷ getD r 4 0 ∷ (8 * room bits - bits) ∷ [];
+  length = room bits;
+}
+
+pub sized : (u : Request) (r : List ℕ) (bits : ℕ) → r ≡ widths u → bits ≡ total (widths u) → sizesBy r bits ≡ sizes u
+unfolding layout padding slipLength widths
+sized u r bits e h = ap₂ {C = Sizes} sizesBy e h
 
 -- only the word matters
 pub length-alike : (u v : Request) → u .word ≡ v .word → slipLength u ≡ slipLength v
@@ -109,3 +120,6 @@ length-alike u v e = ap (λ (w : ℕ). slipLength (bare w)) e
 pub layout-alike : (u v : Request) → u .word ≡ v .word → layout u ≡ layout v
 unfolding layout padding slipLength widths
 layout-alike u v e = ap (λ (w : ℕ). layout (bare w)) e
+
+pub sizes-alike : (u v : Request) → u .word ≡ v .word → sizes u ≡ sizes v
+sizes-alike u v e = ap₂ {C = Sizes} (λ ws n. record { layout = ws; length = n }) (layout-alike u v e) (length-alike u v e)

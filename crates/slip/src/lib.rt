@@ -9,11 +9,10 @@ ghost use lib.ListN.{length, drop};
 ghost use Rattle.tables.specs.Tables.{first};
 ghost use Rattle.clock.specs.Clock.{InRange, Permitted};
 ghost use Rattle.clock.specs.Update.{valuesOutside, rateTooWide};
-ghost use Rattle.fields.specs.Record.{total};
-ghost use Rattle.slip.specs.Layout.{bare, timeWidth, rateField, rateOf, rateFieldEnd, flaggedWidth, widths, slipLength, layout};
-ghost use Rattle.slip.specs.Reading.{refusedBy, readingFront, readingSlip};
+ghost use Rattle.slip.specs.Layout.{bare, timeWidth, rateField, rateOf, rateFieldEnd, flaggedWidth, widths, slipLength};
+ghost use Rattle.slip.specs.Reading.{refusedBy, readingSlip};
 ghost use Rattle.slip.specs.Writing.{valuesOf, slipOf, writingTable, writing, outcome};
-ghost use Rattle.slip.specs.Parts.{judging, Small};
+ghost use Rattle.slip.specs.Parts.{sizes, refusedFront, fronting, judging, Small};
 use clock::Clock;
 use clock::Request;
 use tables::next;
@@ -31,6 +30,18 @@ pub struct Received {
 pub struct Written {
     pub length: usize,
     pub refusal: u8,
+}
+
+// The bits of header, synthetic, reference, rate, error and padding, and the bytes that they fill.
+struct Sizes {
+    layout: [usize; 6],
+    length: usize,
+}
+
+// What was read on the front of some bytes, and the slip's length, 0 where it is refused.
+struct Front {
+    received: Received,
+    length: usize,
 }
 
 // The bits of the header, of a time, a rate and an error bound. The header is the top of the word.
@@ -56,11 +67,11 @@ pub fn read(bytes: &[u8]) -> Received
     ensures { λ r. ⌜ r ≡ readingSlip (now (bytes .entry)) ⌝ }
 {
     let front = read_front(bytes);
-    let request = front.request;
-    if (front.refusal == 0) & (slip_length(request.word) < bytes.len()) {
+    let received = front.received;
+    if (received.refusal == 0) & (front.length < bytes.len()) {
         refused(refusal::BYTES_LEFT_OVER)
     } else {
-        front
+        received
     }
 }
 
@@ -82,34 +93,47 @@ pub fn write(request: Request, buffer: &mut [u8]) -> Written
 pub fn slip_length(word: u64) -> usize
     ensures { λ r. ⌜ r ≡ slipLength (bare word) ⌝ }
 {
-    (bits_of(word) + 7) / 8
+    let sizes = sizes_of(word);
+    sizes.length
 }
 
-// The request of a slip on the front of the bytes, whatever follows it.
-fn read_front(bytes: &[u8]) -> Received
-    ensures { λ r. ⌜ r ≡ readingFront (now (bytes .entry)) ⌝ }
+// The slip on the front of the bytes, whatever follows it. Its sizes are worked out once.
+fn read_front(bytes: &[u8]) -> Front
+    ensures { λ r. ⌜ r ≡ fronting (now (bytes .entry)) ⌝ }
 {
     if bytes.len() < HEADER_BITS / 8 {
-        return refused(refusal::TOO_SHORT);
+        return refused_front(refusal::TOO_SHORT);
     }
     let header = fields::take(bytes, 0, HEADER_BITS);
     let asked = bare(header * HEADER_UNIT);
     if asked.word_wrong() {
-        return refused(refusal::WORD_WRONG);
+        return refused_front(refusal::WORD_WRONG);
     }
-    if bytes.len() < slip_length(asked.word) {
-        return refused(refusal::TOO_SHORT);
+    let sizes = sizes_of(asked.word);
+    let length = sizes.length;
+    if bytes.len() < length {
+        return refused_front(refusal::TOO_SHORT);
     }
-    let layout = layout_of(asked.word);
+    let layout = sizes.layout;
     let values = fields::take_six(bytes, layout);
-    judged(asked, values)
+    judged(asked, values, length)
 }
 
-// The tests of the fields as they stand in a slip, and the request that they give. The values are those of header,
-// synthetic, reference, rate, error and padding.
-fn judged(asked: Request, values: [u64; 6]) -> Received
+fn refused_front(refusal: u8) -> Front
+    ensures { λ r. ⌜ r ≡ refusedFront refusal ⌝ }
+{
+    let received = refused(refusal);
+    Front {
+        received,
+        length: 0,
+    }
+}
+
+// The tests of the fields as they stand in a slip of this length, and the request that they give. The values are those
+// of header, synthetic, reference, rate, error and padding.
+fn judged(asked: Request, values: [u64; 6], length: usize) -> Front
     requires { ⌜ Small values ⌝ }
-    ensures { λ r. ⌜ r ≡ judging asked values ⌝ }
+    ensures { λ r. ⌜ r ≡ judging asked values length ⌝ }
 {
     let rate = values[3];
     let r = next(0, RATE_FIELD_END < rate, refusal::RATE_OUTSIDE);
@@ -123,12 +147,13 @@ fn judged(asked: Request, values: [u64; 6]) -> Received
             rate: rate_of(flags.rate, rate),
             error: values[4],
         };
-        Received {
+        let received = Received {
             request,
             refusal: r,
-        }
+        };
+        Front { received, length }
     } else {
-        refused(r)
+        refused_front(r)
     }
 }
 
@@ -199,21 +224,15 @@ fn widths_of(word: u64) -> [usize; 5]
     [HEADER_BITS, synthetic, reference, rate, error]
 }
 
-// The bits of a slip before its padding.
-fn bits_of(word: u64) -> usize
-    ensures { λ r. ⌜ r ≡ total (widths (bare word)) ⌝ }
+fn sizes_of(word: u64) -> Sizes
+    ensures { λ r. ⌜ r ≡ sizes (bare word) ⌝ }
 {
     let w = widths_of(word);
-    w[0] + w[1] + w[2] + w[3] + w[4]
-}
-
-// The bits of header, synthetic, reference, rate, error and padding.
-fn layout_of(word: u64) -> [usize; 6]
-    ensures { λ r. ⌜ r ≡ layout (bare word) ⌝ }
-{
-    let w = widths_of(word);
-    let padding = 8 * slip_length(word) - bits_of(word);
-    [w[0], w[1], w[2], w[3], w[4], padding]
+    let bits = w[0] + w[1] + w[2] + w[3] + w[4];
+    let length = (bits + 7) / 8;
+    let padding = 8 * length - bits;
+    let layout = [w[0], w[1], w[2], w[3], w[4], padding];
+    Sizes { layout, length }
 }
 
 // Why a request can't be written into a buffer of this size, 0 where it can.
@@ -232,7 +251,8 @@ fn write_slip(request: Request, buffer: &mut [u8])
     requires { ⌜ T (not (valuesOutside request)) × T (not (rateTooWide request)) × (slipLength request ≤ length (now buffer)) ⌝ }
     ensures { λ _. ⌜ now (buffer .exit) ≡ slipOf request ++ drop (slipLength request) (now (buffer .entry)) ⌝ }
 {
-    let layout = layout_of(request.word);
+    let sizes = sizes_of(request.word);
+    let layout = sizes.layout;
     let values = values_of(request);
     fields::put_all(&mut *buffer, &layout, &values);
 }
