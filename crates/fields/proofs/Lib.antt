@@ -1,6 +1,8 @@
 pub mod Numbers
 pub mod Rows
 pub mod Reading
+pub mod Words
+pub mod Windows
 pub mod Over
 pub mod Writing
 pub mod Records

@@ -57,13 +57,3 @@ field-more l place n k h =
 pub field-byte : (l : List ℕ) (i o k r : ℕ) → i < length l → o + (k + r) ≡ 8 → field l (8 * i + o) k ≡ getD l i 0 / 2 ^ r % 2 ^ k
 unfolding field
 field-byte l i o k r h e = ap number (row-byte l i o k r h e) ∙ number-digits k (getD l i 0 / 2 ^ r)
-
--- k bits more, out of the byte that has bit place + n
-pub field-step
-    : (l : List ℕ) (place n k : ℕ) → 0 < k → place + (n + k) ≤ 8 * length l → (place + n) % 8 + k ≤ 8
-    → field l place (n + k) ≡ field l place n * 2 ^ k + getD l ((place + n) / 8) 0 / 2 ^ (8 - k - (place + n) % 8) % 2 ^ k
-field-step l place n k pos h e =
-    field-more l place n k h
-    ∙ ap (λ (p : ℕ). field l place n * 2 ^ k + field l p k) (omega arith)
-    ∙ ap (λ (v : ℕ). field l place n * 2 ^ k + v)
-    (field-byte l ((place + n) / 8) ((place + n) % 8) k (8 - k - (place + n) % 8) (omega arith) (omega arith))

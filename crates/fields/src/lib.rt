@@ -1,7 +1,7 @@
 // Packed fields: numbers of 0 to 64 bits that stand in bytes one after another, most significant bit first.
 ghost use mathlib.Core.Path.{_≡_};
 ghost use mathlib.Core.List.{[], _∷_};
-ghost use Prim.Native.Nat.{_+_, _-_, _/_, _%_, _^_, _<_};
+ghost use Prim.Native.Nat.{_+_, _-_, _*_, _/_, _^_, _≤_, _<_, min};
 ghost use lib.ListN.{length};
 ghost use Rattle.fields.specs.Bits.{digits, row};
 ghost use Rattle.fields.specs.Field.{field, over, Inside};
@@ -86,21 +86,99 @@ fn six_fields(bytes: &[u8], a: usize, b: usize, c: usize, d: usize, e: usize, f:
     [first, second, third, fourth, fifth, sixth]
 }
 
-// The field of `width` bits from a place on, a bit at a time.
+// The field of `width` bits from a place on, by whole bytes.
 fn get(bytes: &[u8], place: usize, width: usize) -> u64
     requires { ⌜ Inside (now bytes) place width ⌝ }
     ensures { λ r. ⌜ r ≡ field (now (bytes .entry)) place width ⌝ }
 {
-    let mut value: u64 = 0;
-    let mut n: usize = 0;
-    while n < width {
-        let p = place + n;
-        let i = p / 8;
-        let b = bit_of(bytes[i], p % 8);
-        value = value * 2 + b;
-        n += 1;
+    if width == 0 {
+        return 0;
     }
-    value
+    if bytes.len() < 8 {
+        return get_of_few(bytes, place, width);
+    }
+    get_of_many(bytes, place, width)
+}
+
+// A field out of fewer than 8 bytes: from the one that it begins in to the last, as one number.
+fn get_of_few(bytes: &[u8], place: usize, width: usize) -> u64
+    requires { ⌜ (place + width ≤ 8 * length (now bytes)) × (0 < width) × (length (now bytes) < 8) ⌝ }
+    ensures { λ r. ⌜ r ≡ field (now (bytes .entry)) place width ⌝ }
+{
+    let number = gathered(bytes, place / 8);
+    let unit = power(width);
+    (number >> (8 * bytes.len() - place - width)) % unit
+}
+
+// A field out of 8 bytes or more: 8 of them as one number, and what stands in a ninth. The `o` bits in front of the
+// field are shifted out.
+fn get_of_many(bytes: &[u8], place: usize, width: usize) -> u64
+    requires { ⌜ (place + width ≤ 8 * length (now bytes)) × (0 < width) × (width ≤ 64) × (8 ≤ length (now bytes)) ⌝ }
+    ensures { λ r. ⌜ r ≡ field (now (bytes .entry)) place width ⌝ }
+{
+    let first = window(place, bytes.len());
+    let o = place - 8 * first;
+    let number = eight(bytes, first);
+    let value = (number << o) >> (64 - width);
+    if o + width <= 64 {
+        return value;
+    }
+    value + (wide(bytes[first + 8]) >> (72 - o - width))
+}
+
+// The byte that has the place, or an earlier one that 7 follow.
+fn window(place: usize, size: usize) -> usize
+    requires { ⌜ 8 ≤ size ⌝ }
+    ensures { λ r. ⌜ r ≡ min (place / 8) (size - 8) ⌝ }
+{
+    let first = place / 8;
+    let last = size - 8;
+    if first < last { first } else { last }
+}
+
+// The bytes from the first on as one number.
+fn gathered(bytes: &[u8], first: usize) -> u64
+    requires { ⌜ (first ≤ length (now bytes)) × (length (now bytes) ≤ first + 8) ⌝ }
+    ensures { λ r. ⌜ r ≡ field (now (bytes .entry)) (8 * first) (8 * (length (now (bytes .entry)) - first)) ⌝ }
+{
+    let mut number: u64 = 0;
+    let mut i = first;
+    while i < bytes.len() {
+        number = number * 256 + wide(bytes[i]);
+        i += 1;
+    }
+    number
+}
+
+// Eight bytes as one number.
+fn eight(bytes: &[u8], i: usize) -> u64
+    requires { ⌜ i + 8 ≤ length (now bytes) ⌝ }
+    ensures { λ r. ⌜ r ≡ field (now (bytes .entry)) (8 * i) 64 ⌝ }
+{
+    joined(
+        bytes[i],
+        bytes[i + 1],
+        bytes[i + 2],
+        bytes[i + 3],
+        bytes[i + 4],
+        bytes[i + 5],
+        bytes[i + 6],
+        bytes[i + 7],
+    )
+}
+
+// One row of `|`: the compiler makes one load of it, of a sum it makes eight.
+fn joined(a: u8, b: u8, c: u8, d: u8, e: u8, f: u8, g: u8, h: u8) -> u64
+    ensures { λ r. ⌜ r ≡ a * 2 ^ 56 + b * 2 ^ 48 + c * 2 ^ 40 + d * 2 ^ 32 + e * 2 ^ 24 + f * 2 ^ 16 + g * 2 ^ 8 + h ⌝ }
+{
+    ((a as u64) << 56)
+        | ((b as u64) << 48)
+        | ((c as u64) << 40)
+        | ((d as u64) << 32)
+        | ((e as u64) << 24)
+        | ((f as u64) << 16)
+        | ((g as u64) << 8)
+        | (h as u64)
 }
 
 // Writes the `width` low bits of the value from a place on. Every other bit stays.
@@ -139,14 +217,6 @@ fn wide(x: u8) -> u64
     ensures { λ r. ⌜ r ≡ x ⌝ }
 {
     x as u64
-}
-
-// Bit `o` of a byte, 0 or 1. Bit 0 is the most significant.
-fn bit_of(byte: u8, o: usize) -> u64
-    requires { ⌜ o < 8 ⌝ }
-    ensures { λ b. ⌜ b ≡ byte / 2 ^ (7 - o) % 2 ⌝ }
-{
-    (wide(byte) >> (7 - o)) % 2
 }
 
 fn power(k: usize) -> u64

@@ -1,26 +1,26 @@
 -- Reading case by case: a slip on the front of some bytes, and the strict reading worked out from it.
-use mathlib.Core.Path.{_≡_, refl, sym, ap, _∙_}
+use mathlib.Core.Path.{_≡_, refl, sym, ap, ap₂, _∙_, subst}
 use mathlib.Core.Bool.{Bool, true, false, cond, _&&_}
 use mathlib.Core.List.{List, [], _∷_, _++_}
-use Prim.Native.Nat.{ℕ, zero, suc, _≤_, _<_}
+use Prim.Native.Nat.{ℕ, zero, suc, _≤_}
 use native.Mathlib.Nat.{lt-of-lt-of-le, le-trans}
 use native.Mathlib.Omega.{arith}
 use lib.Pow.{pow-mono}
 use lib.Dec.{eqb, ltb, nltb→le, eqb·suc-zero, lit≤}
 use lib.ListN.{length}
-use borrow.Author.Tests.{lt-ltb, le-ltb}
 use Rattle.tables.specs.Tables.{Row, _when_, first, answerTo}
-use Rattle.tables.proofs.Tables.{passed, first-passed, first-refused}
-use Rattle.clock.specs.Update.{hasSynthetic, hasReference, wordWrong}
-use Rattle.fields.specs.Field.{field}
+use Rattle.tables.proofs.Tables.{passed, first-passed, first-refused, refused-by}
+use Rattle.clock.specs.Update.{hasSynthetic, hasReference}
 use Rattle.fields.specs.Record.{fields, Fit}
 use Rattle.fields.proofs.Records.{fields-fit}
-use Rattle.slip.specs.Layout.{headerWidth, wordOf, bare, timeWidth, rateFieldEnd, widths, slipLength, layout, headerLength}
+use Rattle.slip.specs.Layout.{timeWidth, rateFieldEnd, widths, slipLength, layout}
 use Rattle.slip.specs.Reading.{headed, valuesIn, rateIn, headerTable, fieldsTable, frontTable, slipTable, received, refusedBy, readingFront, readingSlip}
-use Rattle.slip.specs.Parts.{takenFront, fronting, refusedFront, judging, Small}
+use Rattle.slip.specs.Parts.{openedBy, opening, takenFront, fronting, refusedFront, judging, Small}
 use Rattle.slip.specs.declared.Received.{Received}
+use Rattle.slip.specs.declared.Opened.{Opened}
 use Rattle.slip.specs.declared.Front.{Front}
 use Rattle.slip.proofs.Layouts.{flagged-le, total-layout, length-alike}
+use Rattle.slip.proofs.Openings.{opening-refusal, opening-taken, enough}
 
 pub rate-told : (values : List ℕ) → first (fieldsTable values) ≡ 0 → rateIn values ≤ rateFieldEnd
 unfolding fieldsTable
@@ -29,29 +29,6 @@ rate-told values e = nltb→le rateFieldEnd (rateIn values) (passed 6 (fieldsTab
 -- ---- the front
 
 module _ (bytes : List ℕ) where
-  pub header-word : (header : ℕ) → header ≡ field bytes 0 headerWidth → bare (wordOf header) ≡ headed bytes
-  unfolding headed
-  header-word header e = ap (λ (h : ℕ). bare (wordOf h)) e
-
-  pub front-none : length bytes < headerLength → refusedFront 18 ≡ fronting bytes
-  unfolding fronting frontTable headerTable
-  front-none h = simp (lt-ltb (length bytes) headerLength h)
-
-  module _ (some : headerLength ≤ length bytes) where
-    pub front-word : wordWrong (headed bytes) ≡ true → refusedFront 3 ≡ fronting bytes
-    unfolding fronting frontTable headerTable
-    front-word w = simp (le-ltb (length bytes) headerLength some, w)
-
-    module _ (known : wordWrong (headed bytes) ≡ false) where
-      pub front-few : length bytes < slipLength (headed bytes) → refusedFront 18 ≡ fronting bytes
-      unfolding fronting frontTable headerTable
-      front-few h = simp (le-ltb (length bytes) headerLength some, known, lt-ltb (length bytes) (slipLength (headed bytes)) h)
-
-      pub front-judged
-          : slipLength (headed bytes) ≤ length bytes → judging (headed bytes) (valuesIn bytes) (slipLength (headed bytes)) ≡ fronting bytes
-      unfolding fronting frontTable headerTable judging
-      front-judged h = simp (le-ltb (length bytes) headerLength some, known, le-ltb (length bytes) (slipLength (headed bytes)) h)
-
   -- every value that is read fits its field
   pub valuesIn-fit : slipLength (headed bytes) ≤ length bytes → Fit (layout (headed bytes)) (valuesIn bytes)
   unfolding valuesIn
@@ -66,6 +43,46 @@ module _ (bytes : List ℕ) where
         synthetic = lt-of-lt-of-le (f .1 .0) (pow-mono {j = 63} (le-trans (flagged-le (hasSynthetic u) (timeWidth (u .word))) (lit≤ tt)));
         reference = lt-of-lt-of-le (f .1 .1 .0) (pow-mono {j = 63} (le-trans (flagged-le (hasReference u) (timeWidth (u .word))) (lit≤ tt)));
       }
+
+  abbrev frontTaken : Front
+  frontTaken = takenFront (headed bytes) (valuesIn bytes) (slipLength (headed bytes))
+
+  front-judged : first (headerTable bytes) ≡ 0 → judging (headed bytes) (valuesIn bytes) (slipLength (headed bytes)) ≡ fronting bytes
+  unfolding fronting frontTable headerTable judging
+  front-judged e =
+      ap (λ (n : ℕ). answerTo n frontTaken refusedFront) (sym (first-passed (headerTable bytes) (fieldsTable (valuesIn bytes)) tt e))
+
+  front-refused : (n : ℕ) → n ≡ first (headerTable bytes) → (n ≡ 0 → ⊥) → refusedFront n ≡ fronting bytes
+  unfolding fronting frontTable
+  front-refused n e h =
+      refused-by (frontTable bytes) frontTaken refusedFront n
+      (e ∙ sym (first-refused (headerTable bytes) (fieldsTable (valuesIn bytes)) (λ z. h (e ∙ z)))) h
+
+  -- what the header calls for, and the values that were taken by it, give the reading of the front
+  module _ (opened : Opened) (values : List ℕ) (is : opened ≡ opening bytes) (taken : values ≡ fields bytes 0 (opened .sizes .layout)) where
+    refusal-is : opened .refusal ≡ first (headerTable bytes)
+    refusal-is = ap (λ (o : Opened). o .refusal) is ∙ opening-refusal bytes
+
+    pub opened-refused : (opened .refusal ≡ 0 → ⊥) → refusedFront (opened .refusal) ≡ fronting bytes
+    opened-refused h = front-refused (opened .refusal) refusal-is h
+
+    module _ (none : opened .refusal ≡ 0) where
+      passes : first (headerTable bytes) ≡ 0
+      passes = sym refusal-is ∙ none
+
+      opened-by : opened ≡ openedBy (headed bytes)
+      opened-by = is ∙ opening-taken bytes passes
+
+      values-are : values ≡ valuesIn bytes
+      unfolding valuesIn
+      values-are = taken ∙ ap (λ (o : Opened). fields bytes 0 (o .sizes .layout)) opened-by
+
+      pub opened-small : Small values
+      opened-small = subst Small (sym values-are) (valuesIn-small (enough bytes passes))
+
+      pub opened-judged : judging (opened .asked) values (opened .sizes .length) ≡ fronting bytes
+      opened-judged =
+          ap₂ (λ (o : Opened) (vs : List ℕ). judging (o .asked) vs (o .sizes .length)) opened-by values-are ∙ front-judged passes
 
 -- ---- the strict reading
 

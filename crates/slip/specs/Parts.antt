@@ -1,18 +1,46 @@
 -- What the inner parts of the code compute. The rules in the other files do not rest on this one; proofs/ shows that
 -- the parts give the rules.
-use mathlib.Core.List.{List}
+use mathlib.Core.Bool.{cond}
+use mathlib.Core.List.{List, [], _∷_}
 use Prim.Native.Nat.{ℕ, _^_, _<_}
-use lib.ListN.{getD}
+use lib.Dec.{ltb}
+use lib.ListN.{length, getD}
 use Rattle.tables.specs.Tables.{answer}
 use Rattle.clock.specs.declared.Request.{Request}
-use Rattle.slip.specs.Layout.{slipLength, layout}
-use Rattle.slip.specs.Reading.{headed, valuesIn, fieldsTable, frontTable, received, refusedBy}
+use Rattle.fields.specs.Field.{field}
+use Rattle.slip.specs.Layout.{headerWidth, slipLength, layout, headerLength}
+use Rattle.slip.specs.Reading.{headed, valuesIn, headerTable, fieldsTable, frontTable, received, zeroRequest, refusedBy}
 use Rattle.slip.specs.declared.Sizes.{Sizes}
+use Rattle.slip.specs.declared.Opened.{Opened}
 use Rattle.slip.specs.declared.Front.{Front}
 
 -- the width of each field of a slip, and its length in bytes
 abbrev pub sizes : Request → Sizes
 sizes u = record { layout = layout u; length = slipLength u }
+
+-- ---- the header (18, 3, 18)
+
+-- its bits that are there: all, or none of bytes that are too few for it
+abbrev pub headerBits : ℕ → ℕ
+headerBits size = cond (ltb size headerLength) 0 headerWidth
+
+abbrev pub headerIn : List ℕ → ℕ
+headerIn bytes = field bytes 0 (headerBits (length bytes))
+
+-- a header that is taken, and one that is refused, with the sizes of its slip
+abbrev pub openedBy : Request → Opened
+openedBy u = record { asked = u; sizes = sizes u; refusal = 0 }
+
+abbrev pub noSizes : Sizes
+noSizes = record { layout = 0 ∷ 0 ∷ 0 ∷ 0 ∷ 0 ∷ 0 ∷ []; length = 0 }
+
+abbrev pub refusedOpening : ℕ → Opened
+refusedOpening n = record { asked = zeroRequest; sizes = noSizes; refusal = n }
+
+unfoldable pub opening : List ℕ → Opened
+opening bytes = answer (headerTable bytes) (openedBy (headed bytes)) refusedOpening
+
+-- ---- the fields (6, 19)
 
 -- a slip that is taken, and one that is refused, with their lengths
 abbrev pub takenFront : Request → List ℕ → ℕ → Front

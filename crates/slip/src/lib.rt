@@ -7,12 +7,13 @@ ghost use lib.IntN.{pos, natAbs};
 ghost use lib.Dec.{T};
 ghost use lib.ListN.{length, drop};
 ghost use Rattle.tables.specs.Tables.{first};
+ghost use Rattle.fields.specs.Record.{fields};
 ghost use Rattle.clock.specs.Clock.{InRange, Permitted};
 ghost use Rattle.clock.specs.Update.{valuesOutside, rateTooWide};
 ghost use Rattle.slip.specs.Layout.{bare, timeWidth, rateField, rateOf, rateFieldEnd, flaggedWidth, widths, slipLength};
 ghost use Rattle.slip.specs.Reading.{refusedBy, readingSlip};
 ghost use Rattle.slip.specs.Writing.{valuesOf, slipOf, writingTable, writing, outcome};
-ghost use Rattle.slip.specs.Parts.{sizes, refusedFront, fronting, judging, Small};
+ghost use Rattle.slip.specs.Parts.{sizes, headerBits, headerIn, opening, refusedOpening, refusedFront, fronting, judging, Small};
 use clock::Clock;
 use clock::Request;
 use tables::next;
@@ -33,13 +34,21 @@ pub struct Written {
 }
 
 // The bits of header, synthetic, reference, rate, error and padding, and the bytes that they fill.
-struct Sizes {
-    layout: [usize; 6],
+pub struct Sizes {
+    pub layout: [usize; 6],
     length: usize,
 }
 
+// What the header of some bytes calls for: its word with zero arguments, and the sizes of its slip. A refused one is
+// zeros but for its number.
+pub struct Opened {
+    asked: Request,
+    pub sizes: Sizes,
+    refusal: u8,
+}
+
 // What was read on the front of some bytes, and the slip's length, 0 where it is refused.
-struct Front {
+pub struct Front {
     received: Received,
     length: usize,
 }
@@ -52,6 +61,9 @@ const TIME_BITS: usize = 61;
 const RATE_BITS: usize = 11;
 
 const ERROR_BITS: usize = 64;
+
+// The bytes of a header, which are a slip where nothing is flagged.
+const HEADER_LENGTH: usize = HEADER_BITS / 8;
 
 // The bytes of the longest slip, which flags all four arguments.
 pub const MAX_LENGTH: usize = (HEADER_BITS + 2 * TIME_BITS + RATE_BITS + ERROR_BITS + 7) / 8;
@@ -67,12 +79,7 @@ pub fn read(bytes: &[u8]) -> Received
     ensures { λ r. ⌜ r ≡ readingSlip (now (bytes .entry)) ⌝ }
 {
     let front = read_front(bytes);
-    let received = front.received;
-    if (received.refusal == 0) & (front.length < bytes.len()) {
-        refused(refusal::BYTES_LEFT_OVER)
-    } else {
-        received
-    }
+    single_of(bytes, front)
 }
 
 // Writes the request as a slip to the front of the buffer. No other byte is touched, and none where it is refused.
@@ -97,26 +104,89 @@ pub fn slip_length(word: u64) -> usize
     sizes.length
 }
 
-// The slip on the front of the bytes, whatever follows it. Its sizes are worked out once.
+// The slip on the front of the bytes, whatever follows it. Here the bits are taken, and nothing else is done.
 fn read_front(bytes: &[u8]) -> Front
     ensures { λ r. ⌜ r ≡ fronting (now (bytes .entry)) ⌝ }
 {
-    if bytes.len() < HEADER_BITS / 8 {
-        return refused_front(refusal::TOO_SHORT);
-    }
-    let header = fields::take(bytes, 0, HEADER_BITS);
-    let asked = bare(header * HEADER_UNIT);
-    if asked.word_wrong() {
-        return refused_front(refusal::WORD_WRONG);
-    }
-    let sizes = sizes_of(asked.word);
-    let length = sizes.length;
-    if bytes.len() < length {
-        return refused_front(refusal::TOO_SHORT);
-    }
+    let header = fields::take(bytes, 0, header_bits(bytes.len()));
+    let opened = opening_of(bytes, header);
+    let sizes = opened.sizes;
     let layout = sizes.layout;
     let values = fields::take_six(bytes, layout);
-    judged(asked, values, length)
+    front_of(bytes, opened, values)
+}
+
+// ---- the parts of a reading that take no bits, for every reader that takes them in its own way
+
+// The bits of the header that are there: all, or none of bytes that are too few for it.
+pub fn header_bits(size: usize) -> usize
+    ensures { λ r. ⌜ r ≡ headerBits size ⌝ }
+{
+    if size < HEADER_LENGTH { 0 } else { HEADER_BITS }
+}
+
+// What the header calls for that was taken from the front of these bytes. The sizes are worked out here, once.
+pub fn opening_of(bytes: &[u8], header: u64) -> Opened
+    requires { ⌜ header ≡ headerIn (now bytes) ⌝ }
+    ensures { λ r. ⌜ r ≡ opening (now (bytes .entry)) ⌝ }
+{
+    if bytes.len() < HEADER_LENGTH {
+        return refused_opening(refusal::TOO_SHORT);
+    }
+    let asked = bare(header * HEADER_UNIT);
+    if asked.word_wrong() {
+        return refused_opening(refusal::WORD_WRONG);
+    }
+    let sizes = sizes_of(asked.word);
+    if bytes.len() < sizes.length {
+        return refused_opening(refusal::TOO_SHORT);
+    }
+    Opened {
+        asked,
+        sizes,
+        refusal: 0,
+    }
+}
+
+// The reading of the front of these bytes, of what their header calls for and the values that were taken.
+pub fn front_of(bytes: &[u8], opened: Opened, values: [u64; 6]) -> Front
+    requires { ⌜ (opened ≡ opening (now bytes)) × (values ≡ fields (now bytes) 0 (opened .sizes .layout)) ⌝ }
+    ensures { λ r. ⌜ r ≡ fronting (now (bytes .entry)) ⌝ }
+{
+    if opened.refusal == 0 {
+        let sizes = opened.sizes;
+        judged(opened.asked, values, sizes.length)
+    } else {
+        refused_front(opened.refusal)
+    }
+}
+
+// The strict reading of these bytes, of that of their front: none may be left over.
+pub fn single_of(bytes: &[u8], front: Front) -> Received
+    requires { ⌜ front ≡ fronting (now bytes) ⌝ }
+    ensures { λ r. ⌜ r ≡ readingSlip (now (bytes .entry)) ⌝ }
+{
+    let received = front.received;
+    if (received.refusal == 0) & (front.length < bytes.len()) {
+        refused(refusal::BYTES_LEFT_OVER)
+    } else {
+        received
+    }
+}
+
+fn refused_opening(refusal: u8) -> Opened
+    ensures { λ r. ⌜ r ≡ refusedOpening refusal ⌝ }
+{
+    let asked = bare(0);
+    let sizes = Sizes {
+        layout: [0, 0, 0, 0, 0, 0],
+        length: 0,
+    };
+    Opened {
+        asked,
+        sizes,
+        refusal,
+    }
 }
 
 fn refused_front(refusal: u8) -> Front

@@ -1,8 +1,10 @@
-//! Times the library, through its C boundary, beside the plain 128-bit Rust version, and prints one table in Markdown.
+//! Times the library, through its C boundary, beside the plain 128-bit Rust version, and its reading of slips also
+//! beside the reader that takes one bit at a time. Prints a table in Markdown for each.
 //!
 //! Arguments: how often each side is run (101 unless told), and a part of the names of the rows that are wanted (all
 //! unless told).
 
+mod baseline;
 mod inputs;
 mod pairs;
 mod rival;
@@ -31,35 +33,49 @@ fn main() -> ExitCode {
     let mut rows = rows::rows();
     rows.retain(|row| row.name.contains(&wanted));
     println!(
-        "{}; {}. Each side ran {} times, the two in turn, with {} calls a run on {} different inputs. Told are the \
-         median and, in brackets, the quartiles of the runs; the ratio is the median over the pairs of runs.\n",
+        "{}; {}. Each side ran {} times, the sides in turn, with {} calls a run on {} different inputs. Told are the \
+         median and, in brackets, the quartiles of the runs; the ratio is the median over the pairs of runs.",
         processor(),
         env!("COMPILER"),
         table::grouped(runs),
         table::grouped(PASSES * inputs::COUNT),
         table::grouped(inputs::COUNT),
     );
-    println!("{}", table::HEAD);
     let taken = measured(&mut rows, runs);
-    for (row, (library, plain)) in rows.iter().zip(taken) {
-        println!("{}", table::line(&row.name, &library, &plain));
-    }
+    let lines = |side: fn(&Taken) -> &Vec<f64>| -> Vec<String> {
+        let timed = rows.iter().zip(&taken).filter(|(_, taken)| !side(taken).is_empty());
+        timed.map(|(row, taken)| table::line(&row.name, &taken.library, side(taken))).collect()
+    };
+    table::print("plain Rust", &lines(|taken| &taken.plain));
+    table::print("bit by bit", &lines(|taken| &taken.by_bits));
     ExitCode::SUCCESS
 }
 
-/// All rows are gone over in turn, so that what disturbs the machine for a while falls on a few runs of every row. One
-/// pass before each run is not counted.
-fn measured(rows: &mut [rows::Row], runs: usize) -> Vec<(Vec<f64>, Vec<f64>)> {
-    let mut taken = vec![(Vec::new(), Vec::new()); rows.len()];
+/// What the runs of a row's sides took, in nanoseconds a call.
+#[derive(Clone, Default)]
+struct Taken {
+    library: Vec<f64>,
+    plain: Vec<f64>,
+    by_bits: Vec<f64>,
+}
+
+/// All rows are gone over in turn, so that what disturbs the machine for a while falls on a few runs of every row.
+fn measured(rows: &mut [rows::Row], runs: usize) -> Vec<Taken> {
+    let mut taken = vec![Taken::default(); rows.len()];
     for _ in 0..runs {
-        for (row, (library, plain)) in rows.iter_mut().zip(&mut taken) {
-            (row.library)(1);
-            library.push((row.library)(PASSES));
-            (row.plain)(1);
-            plain.push((row.plain)(PASSES));
+        for (row, taken) in rows.iter_mut().zip(&mut taken) {
+            taken.library.push(run(&mut row.library));
+            taken.plain.push(run(&mut row.plain));
+            taken.by_bits.extend(row.by_bits.as_mut().map(run));
         }
     }
     taken
+}
+
+/// One run of a side. The pass before it is not counted.
+fn run(side: &mut rows::Side) -> f64 {
+    side(1);
+    side(PASSES)
 }
 
 /// The processor's name as Linux tells it.

@@ -7,15 +7,17 @@ use std::time::Instant;
 use cementoad_sys::{self as ffi, LONGEST_SLIP, RATE, SYNTHETIC};
 
 use crate::inputs::{self, Asking, COUNT, Dice, Distance::*, FULL, Slip, Updating, Writing};
-use crate::rival;
+use crate::{baseline, rival};
 
 /// Goes over a row's inputs as often as told, and answers the nanoseconds a call.
-type Side = Box<dyn FnMut(usize) -> f64>;
+pub type Side = Box<dyn FnMut(usize) -> f64>;
 
 pub struct Row {
     pub name: String,
     pub library: Side,
     pub plain: Side,
+    /// Of slips that are read.
+    pub by_bits: Option<Side>,
 }
 
 /// The rows, in the table's order.
@@ -67,6 +69,7 @@ fn row<L: 'static, P: 'static, A, B: PartialEq + Debug>(
         name: name.into(),
         library: Box::new(move |passes| time(&library_inputs, passes, &mut library)),
         plain: Box::new(move |passes| time(&plain_inputs, passes, &mut plain)),
+        by_bits: None,
     }
 }
 
@@ -155,13 +158,19 @@ fn update(name: &str, inputs: Vec<Updating>) -> Row {
 }
 
 fn slip_reading(name: &str, inputs: Vec<Slip>) -> Row {
-    row(
+    let answer = |received: ffi::Received| (received.refusal, received.request);
+    let row = row(
         name,
-        inputs.into_iter().map(|slip| (slip, slip)),
+        inputs.iter().map(|&slip| (slip, slip)),
         |slip| ffi::read_slip(slip.bytes()),
         |slip| rival::read_slip(slip.bytes()),
-        |received| (received.refusal, received.request),
-    )
+        answer,
+    );
+    let by_bits = |slip: &Slip| baseline::read_slip(slip.bytes());
+    for slip in &inputs {
+        assert_eq!(answer(by_bits(slip)), rival::read_slip(slip.bytes()), "{name}");
+    }
+    Row { by_bits: Some(Box::new(move |passes| time(&inputs, passes, by_bits))), ..row }
 }
 
 /// Each side has one buffer, filled with zeros once and not cleared between calls. What the sides write is compared in

@@ -16,16 +16,20 @@ fn told(runs: &[f64]) -> String {
     format!("{median:.1} ({lower:.1} to {upper:.1})")
 }
 
-/// The table's head in Markdown.
-pub const HEAD: &str =
-    "| operation and inputs | library, ns a call | plain Rust, ns a call | ratio |\n|---|---:|---:|---:|";
+/// Prints the table against one side in Markdown, if it has lines.
+pub fn print(side: &str, lines: &[String]) {
+    if !lines.is_empty() {
+        println!("\n| operation and inputs | library, ns a call | {side}, ns a call | ratio |\n|---|---:|---:|---:|");
+        println!("{}", lines.join("\n"));
+    }
+}
 
 /// The table's line of an operation with its inputs. The ratio, below 1 where the library is quicker, is taken run by
 /// run: what slows the machine for a while slows both runs of a pair.
-pub fn line(name: &str, library: &[f64], plain: &[f64]) -> String {
-    let ratios: Vec<f64> = library.iter().zip(plain).map(|(left, right)| left / right).collect();
+pub fn line(name: &str, library: &[f64], other: &[f64]) -> String {
+    let ratios: Vec<f64> = library.iter().zip(other).map(|(left, right)| left / right).collect();
     let ratio = quantile(&ratios, 0.5);
-    format!("| {name} | {} | {} | {ratio:.2} |", told(library), told(plain))
+    format!("| {name} | {} | {} | {ratio:.2} |", told(library), told(other))
 }
 
 /// A number with commas between its thousands.
