@@ -22,7 +22,7 @@ pub extern "C" fn baselines_read_slip(bytes: &[u8]) -> Received
 fn read_front(bytes: &[u8]) -> Front
     ensures { λ r. ⌜ r ≡ fronting (now (bytes .entry)) ⌝ }
 {
-    let header = get(bytes, 0, slip::header_bits(bytes.len()));
+    let header = get(bytes, 0, slip::header_bits_in(bytes.len()));
     let opened = slip::opening_of(bytes, header);
     let sizes = opened.sizes;
     let layout = sizes.layout;

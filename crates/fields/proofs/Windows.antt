@@ -5,19 +5,11 @@ use Prim.Native.Nat.{ℕ, _+_, _-_, _*_, _/_, _%_, _^_, _≤_, _<_}
 use native.Mathlib.Nat.{mod-eq-of-lt, div-one, add-zero}
 use native.Mathlib.Omega.{arith}
 use lib.ListN.{length, getD}
-use lib.Pow.{high, low, shr-lt}
+use lib.Pow.{high, shr-lt}
 use Rattle.fields.specs.Bits.{Bytes}
 use Rattle.fields.specs.Field.{field}
 use Rattle.fields.proofs.Words.{shl-low, shl-shr-more, shl-shr-less, chained-sum}
 use Rattle.fields.proofs.Reading.{field-lt, field-more, field-byte}
-
--- a whole byte
-field-whole : (l : List ℕ) (place i : ℕ) → place ≡ 8 * i → i < length l → getD l i 0 < 256 → field l place 8 ≡ getD l i 0
-field-whole l place i e h b =
-    ap (λ (p : ℕ). field l p 8) (e ∙ sym (add-zero (8 * i)))
-    ∙ field-byte l i 0 8 0 h (omega arith)
-    ∙ ap (λ (n : ℕ). n % 2 ^ 8) (div-one (getD l i 0))
-    ∙ mod-eq-of-lt b
 
 -- the first bits of a byte
 field-front-bits : (l : List ℕ) (i k : ℕ) → i < length l → getD l i 0 < 256 → k ≤ 8 → field l (8 * i) k ≡ getD l i 0 / 2 ^ (8 - k)
@@ -26,6 +18,10 @@ field-front-bits l i k h b hk =
     ap (λ (p : ℕ). field l p k) (sym (add-zero (8 * i)))
     ∙ field-byte l i 0 k (8 - k) h (omega arith)
     ∙ mod-eq-of-lt (shr-lt k (8 - k) (rw e b))
+
+-- a whole byte
+field-whole : (l : List ℕ) (i : ℕ) → i < length l → getD l i 0 < 256 → field l (8 * i) 8 ≡ getD l i 0
+field-whole l i h b = field-front-bits l i 8 h b (omega arith) ∙ div-one (getD l i 0)
 
 -- two fields that follow each other
 field-two : (l : List ℕ) (place mid n k m : ℕ) → mid ≡ place + n → m ≡ n + k → place + m ≤ 8 * length l → field l place n * 2 ^ k + field l mid k ≡ field l place m
@@ -37,7 +33,7 @@ pub field-next
     : (l : List ℕ) (i j n x : ℕ) → x ≡ field l (8 * i) (8 * n) → j ≡ i + n → j < length l → getD l j 0 < 256
     → x * 256 + getD l j 0 ≡ field l (8 * i) (8 * (n + 1))
 field-next l i j n x e ej h b =
-    ap₂ (λ (y z : ℕ). y * 256 + z) e (sym (field-whole l (8 * j) j refl h b))
+    ap₂ (λ (y z : ℕ). y * 256 + z) e (sym (field-whole l j h b))
     ∙ field-two l (8 * i) (8 * j) (8 * n) 8 (8 * (n + 1)) (omega arith) (omega arith) (omega arith)
 
 -- eight bytes, each at its place
@@ -54,7 +50,7 @@ field-eight l i h b =
     (field-next l i (i + 4) 4 _
     (field-next l i (i + 3) 3 _
     (field-next l i (i + 2) 2 _
-    (field-next l i (i + 1) 1 _ (sym (field-whole l (8 * i) i refl (omega arith) (b i))) refl (omega arith) (b (i + 1)))
+    (field-next l i (i + 1) 1 _ (sym (field-whole l i (omega arith) (b i))) refl (omega arith) (b (i + 1)))
     refl (omega arith) (b (i + 2)))
     refl (omega arith) (b (i + 3)))
     refl (omega arith) (b (i + 4)))
@@ -62,45 +58,37 @@ field-eight l i h b =
     refl (omega arith) (b (i + 6)))
     refl (omega arith) (b (i + 7))
 
--- w bits with o before them and r after
-pub field-part : (l : List ℕ) (a place o w r m : ℕ) → place ≡ a + o → m ≡ o + (w + r) → a + m ≤ 8 * length l → field l a m / 2 ^ r % 2 ^ w ≡ field l place w
-field-part l a place o w r m ea em h =
-    let split : field l a m ≡ field l a (o + w) * 2 ^ r + field l (a + (o + w)) r = ap (field l a) {y = o + w + r} (omega arith) ∙ field-more l a (o + w) r (omega arith) in
-    let top : field l a m / 2 ^ r ≡ field l a (o + w) = ap (λ (n : ℕ). n / 2 ^ r) split ∙ high (field l a (o + w)) r (field-lt l (a + (o + w)) r (omega arith)) in
-    ap (λ (n : ℕ). n % 2 ^ w) (top ∙ field-more l a o w (omega arith))
-    ∙ low (field l a o) w (field-lt l (a + o) w (omega arith))
-    ∙ ap (λ (p : ℕ). field l p w) (sym ea)
+-- m bits, shifted up by s until the first o of them are gone
+window-shl
+    : (l : List ℕ) (a m o k s : ℕ) → m ≡ o + k → k + s ≡ 64 → a + m ≤ 8 * length l
+    → field l a m * 2 ^ s % 2 ^ 64 ≡ field l (a + o) k * 2 ^ s
+window-shl l a m o k s em e h =
+    ap₂ (λ (m n : ℕ). field l a m * 2 ^ s % 2 ^ n) em (sym e)
+    ∙ ap (λ (n : ℕ). n * 2 ^ s % 2 ^ (k + s)) (field-more l a o k (omega arith))
+    ∙ shl-low (field l a o) k s (field l (a + o) k) (field-lt l (a + o) k (omega arith))
 
--- 64 bits, of which the first o are shifted out
-window-shl : (l : List ℕ) (a o k : ℕ) → o + k ≡ 64 → a + 64 ≤ 8 * length l → field l a 64 * 2 ^ o % 2 ^ 64 ≡ field l (a + o) k * 2 ^ o
-window-shl l a o k e h =
-    let f : 64 ≡ k + o = omega arith in
-    ap₂ (λ (m n : ℕ). field l a m * 2 ^ o % 2 ^ n) (sym e) f
-    ∙ ap (λ (n : ℕ). n * 2 ^ o % 2 ^ (k + o)) (field-more l a o k (omega arith))
-    ∙ shl-low (field l a o) k o (field l (a + o) k) (field-lt l (a + o) k (omega arith))
-
--- a field inside 64 bits
+-- a field inside m bits, shifted up until what stands before it is gone, and down to its width
 pub window-in
-    : (l : List ℕ) (a place w : ℕ) → a ≤ place → place + w ≤ a + 64 → a + 64 ≤ 8 * length l
-    → field l a 64 * 2 ^ (place - a) % 2 ^ 64 / 2 ^ (64 - w) ≡ field l place w
-window-in l a place w ha hw h =
+    : (l : List ℕ) (a m place w s : ℕ) → a ≤ place → place + w ≤ a + m → a + m + s ≡ place + 64 → a + m ≤ 8 * length l
+    → field l a m * 2 ^ s % 2 ^ 64 / 2 ^ (64 - w) ≡ field l place w
+window-in l a m place w s ha hw e h =
     let o : ℕ = place - a in
-    let r : ℕ = 64 - w - o in
-    let down : 64 - w ≡ o + r = omega arith in
+    let r : ℕ = m - o - w in
+    let down : 64 - w ≡ s + r = omega arith in
     let there : a + o ≡ place = omega arith in
-    ap₂ (λ (x d : ℕ). x / 2 ^ d) (window-shl l a o (w + r) (omega arith) h) down
-    ∙ shl-shr-more (field l (a + o) (w + r)) o r
+    ap₂ (λ (x d : ℕ). x / 2 ^ d) (window-shl l a m o (w + r) s (omega arith) (omega arith) h) down
+    ∙ shl-shr-more (field l (a + o) (w + r)) s r
     ∙ ap (λ (n : ℕ). n / 2 ^ r) (field-more l (a + o) w r (omega arith))
     ∙ high (field l (a + o) w) r (field-lt l (a + o + w) r (omega arith))
     ∙ ap (λ (p : ℕ). field l p w) there
 
--- a field that goes on in the byte after them, with `left` of its bits
+-- a field that goes on in the byte after eight others, with `left` of its bits
 window-nine
     : (l : List ℕ) (i o w k d left : ℕ) → o + k ≡ 64 → o ≡ left + d → w ≡ k + left → left ≤ 8 → i + 8 < length l → getD l (i + 8) 0 < 256
     → field l (8 * i) 64 * 2 ^ o % 2 ^ 64 / 2 ^ d + getD l (i + 8) 0 / 2 ^ (8 - left) ≡ field l (8 * i + o) w
 window-nine l i o w k d left ek eo ew hl h b =
     ap₂ (λ (x y : ℕ). x + y)
-    (ap (λ (x : ℕ). x / 2 ^ d) (window-shl l (8 * i) o k ek (omega arith) ∙ ap (λ (n : ℕ). field l (8 * i + o) k * 2 ^ n) eo)
+    (ap (λ (x : ℕ). x / 2 ^ d) (window-shl l (8 * i) 64 o k o (sym ek) (omega arith) (omega arith) ∙ ap (λ (n : ℕ). field l (8 * i + o) k * 2 ^ n) eo)
     ∙ shl-shr-less (field l (8 * i + o) k) left d)
     (sym (field-front-bits l (i + 8) left h b hl))
     ∙ field-two l (8 * i + o) (8 * (i + 8)) k left w (omega arith) ew (omega arith)

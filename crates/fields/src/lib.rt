@@ -86,7 +86,7 @@ fn six_fields(bytes: &[u8], a: usize, b: usize, c: usize, d: usize, e: usize, f:
     [first, second, third, fourth, fifth, sixth]
 }
 
-// The field of `width` bits from a place on, by whole bytes.
+// The field of `width` bits from a place on, by whole bytes. Width 0 stands apart: no number can be shifted by 64.
 fn get(bytes: &[u8], place: usize, width: usize) -> u64
     requires { ⌜ Inside (now bytes) place width ⌝ }
     ensures { λ r. ⌜ r ≡ field (now (bytes .entry)) place width ⌝ }
@@ -100,34 +100,34 @@ fn get(bytes: &[u8], place: usize, width: usize) -> u64
     get_of_many(bytes, place, width)
 }
 
-// A field out of fewer than 8 bytes: from the one that it begins in to the last, as one number.
+// A field out of fewer than 8 bytes: from the one that it begins in to the last, as one number, which is shifted up
+// until the bits before the field are gone, and down to its width.
 fn get_of_few(bytes: &[u8], place: usize, width: usize) -> u64
     requires { ⌜ (place + width ≤ 8 * length (now bytes)) × (0 < width) × (length (now bytes) < 8) ⌝ }
     ensures { λ r. ⌜ r ≡ field (now (bytes .entry)) place width ⌝ }
 {
+    let left = 8 * bytes.len() - place;
     let number = gathered(bytes, place / 8);
-    let unit = power(width);
-    (number >> (8 * bytes.len() - place - width)) % unit
+    (number << (64 - left)) >> (64 - width)
 }
 
-// A field out of 8 bytes or more: 8 of them as one number, and what stands in a ninth. The `o` bits in front of the
-// field are shifted out.
+// A field out of 8 bytes or more: the same of 8 of them, and what stands in a ninth.
 fn get_of_many(bytes: &[u8], place: usize, width: usize) -> u64
     requires { ⌜ (place + width ≤ 8 * length (now bytes)) × (0 < width) × (width ≤ 64) × (8 ≤ length (now bytes)) ⌝ }
     ensures { λ r. ⌜ r ≡ field (now (bytes .entry)) place width ⌝ }
 {
-    let first = window(place, bytes.len());
-    let o = place - 8 * first;
+    let first = window_start(place, bytes.len());
+    let before = place - 8 * first;
     let number = eight(bytes, first);
-    let value = (number << o) >> (64 - width);
-    if o + width <= 64 {
+    let value = (number << before) >> (64 - width);
+    if before + width <= 64 {
         return value;
     }
-    value + (wide(bytes[first + 8]) >> (72 - o - width))
+    value + (wide(bytes[first + 8]) >> (72 - before - width))
 }
 
 // The byte that has the place, or an earlier one that 7 follow.
-fn window(place: usize, size: usize) -> usize
+fn window_start(place: usize, size: usize) -> usize
     requires { ⌜ 8 ≤ size ⌝ }
     ensures { λ r. ⌜ r ≡ min (place / 8) (size - 8) ⌝ }
 {
@@ -136,7 +136,7 @@ fn window(place: usize, size: usize) -> usize
     if first < last { first } else { last }
 }
 
-// The bytes from the first on as one number.
+// The bytes from `first` to the last as one number.
 fn gathered(bytes: &[u8], first: usize) -> u64
     requires { ⌜ (first ≤ length (now bytes)) × (length (now bytes) ≤ first + 8) ⌝ }
     ensures { λ r. ⌜ r ≡ field (now (bytes .entry)) (8 * first) (8 * (length (now (bytes .entry)) - first)) ⌝ }
@@ -150,20 +150,20 @@ fn gathered(bytes: &[u8], first: usize) -> u64
     number
 }
 
-// Eight bytes as one number.
-fn eight(bytes: &[u8], i: usize) -> u64
-    requires { ⌜ i + 8 ≤ length (now bytes) ⌝ }
-    ensures { λ r. ⌜ r ≡ field (now (bytes .entry)) (8 * i) 64 ⌝ }
+// Eight bytes from `first` on as one number.
+fn eight(bytes: &[u8], first: usize) -> u64
+    requires { ⌜ first + 8 ≤ length (now bytes) ⌝ }
+    ensures { λ r. ⌜ r ≡ field (now (bytes .entry)) (8 * first) 64 ⌝ }
 {
     joined(
-        bytes[i],
-        bytes[i + 1],
-        bytes[i + 2],
-        bytes[i + 3],
-        bytes[i + 4],
-        bytes[i + 5],
-        bytes[i + 6],
-        bytes[i + 7],
+        bytes[first],
+        bytes[first + 1],
+        bytes[first + 2],
+        bytes[first + 3],
+        bytes[first + 4],
+        bytes[first + 5],
+        bytes[first + 6],
+        bytes[first + 7],
     )
 }
 

@@ -131,7 +131,7 @@ module _ (bytes : List ℕ) where
       ap (λ (n : ℕ). slipLength (answerTo n taken refusedBy .request)) e ∙ length-alike (taken .request) (headed bytes) refl)
 
   abbrev front : ℕ → Front
-  front n = answerTo n (takenFront (headed bytes) (valuesIn bytes) (slipLength (headed bytes))) refusedFront
+  front n = answerTo n (frontTaken bytes) refusedFront
 
   -- what the code reads on the front is what the rules say
   front-received : fronting bytes .received ≡ readingFront bytes

@@ -1,5 +1,5 @@
 -- What a header calls for: its refusals case by case, and a layout that lies in the bytes.
-use mathlib.Core.Path.{_≡_, refl, sym, ap, _∙_}
+use mathlib.Core.Path.{_≡_, refl, sym, ap, _∙_, subst⁻¹}
 use mathlib.Core.Bool.{Bool, true, false, not, cond}
 use mathlib.Core.List.{List}
 use Prim.Native.Nat.{ℕ, zero, suc, _≤_, _<_}
@@ -14,18 +14,22 @@ use Rattle.fields.specs.Field.{field, Inside}
 use Rattle.fields.specs.Record.{AllInside}
 use Rattle.slip.specs.Layout.{headerWidth, wordOf, bare, slipLength, headerLength}
 use Rattle.slip.specs.Reading.{headed, headerTable}
-use Rattle.slip.specs.Parts.{headerBits, headerIn, openedBy, noSizes, refusedOpening, opening}
+use Rattle.slip.specs.Parts.{headerBitsIn, headerIn, openedBy, noSizes, refusedOpening, opening}
 use Rattle.slip.specs.declared.Opened.{Opened}
 use Rattle.slip.proofs.Layouts.{layout-inside}
 
 -- ---- the header's bits
 
-pub header-inside : (bytes : List ℕ) → Inside bytes 0 (headerBits (length bytes))
-header-inside bytes = go (ltb (length bytes) headerLength) (λ t. nltb→le (length bytes) headerLength t)
-  where
-    go : (few : Bool) → (T (not few) → headerLength ≤ length bytes) → Inside bytes 0 (cond few 0 headerWidth)
-    go true h = (omega arith, omega arith, omega arith)
-    go false h = (omega (arith, h tt), omega arith, omega arith)
+module _ (bytes : List ℕ) (bits : ℕ) (as-many : bits ≡ headerBitsIn (length bytes)) where
+  pub header-inside : Inside bytes 0 bits
+  header-inside = subst⁻¹ (Inside bytes 0) as-many (go (ltb (length bytes) headerLength) (λ t. nltb→le (length bytes) headerLength t))
+    where
+      go : (few : Bool) → (T (not few) → headerLength ≤ length bytes) → Inside bytes 0 (cond few 0 headerWidth)
+      go true h = (omega arith, omega arith, omega arith)
+      go false h = (omega (arith, h tt), omega arith, omega arith)
+
+  pub header-taken : (header : ℕ) → header ≡ field bytes 0 bits → header ≡ headerIn bytes
+  header-taken header e = e ∙ ap (field bytes 0) as-many
 
 -- ---- its refusals
 
@@ -78,9 +82,13 @@ module _ (bytes : List ℕ) where
   nothing-inside : AllInside bytes 0 (noSizes .layout)
   nothing-inside = (omega arith, (omega arith, (omega arith, (omega arith, (omega arith, (omega arith, (omega arith, tt)))))), omega arith)
 
-  pub opening-inside : AllInside bytes 0 (opening bytes .sizes .layout)
+  pub opening-inside : (opened : Opened) → opened ≡ opening bytes → AllInside bytes 0 (opened .sizes .layout)
   unfolding opening
-  opening-inside =
-      by-answer (headerTable bytes) (openedBy (headed bytes)) refusedOpening (λ (o : Opened). AllInside bytes 0 (o .sizes .layout))
+  opening-inside opened is =
+      subst⁻¹ inside is
+      (by-answer (headerTable bytes) (openedBy (headed bytes)) refusedOpening inside
       (λ e. layout-inside (headed bytes) bytes (enough e))
-      (λ n e h. nothing-inside)
+      (λ n e h. nothing-inside))
+    where
+      inside : Opened → Type 0
+      inside o = AllInside bytes 0 (o .sizes .layout)

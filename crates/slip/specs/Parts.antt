@@ -20,17 +20,19 @@ sizes u = record { layout = layout u; length = slipLength u }
 
 -- ---- the header (18, 3, 18)
 
--- its bits that are there: all, or none of bytes that are too few for it
-abbrev pub headerBits : ℕ → ℕ
-headerBits size = cond (ltb size headerLength) 0 headerWidth
+-- how many of its bits there are: none where the bytes are too few for a header
+abbrev pub headerBitsIn : ℕ → ℕ
+headerBitsIn size = cond (ltb size headerLength) 0 headerWidth
 
+-- what they say, 0 where there are none
 abbrev pub headerIn : List ℕ → ℕ
-headerIn bytes = field bytes 0 (headerBits (length bytes))
+headerIn bytes = field bytes 0 (headerBitsIn (length bytes))
 
--- a header that is taken, and one that is refused, with the sizes of its slip
+-- a header that is taken, with the sizes of its slip, and one that is refused
 abbrev pub openedBy : Request → Opened
 openedBy u = record { asked = u; sizes = sizes u; refusal = 0 }
 
+-- six fields of no bits
 abbrev pub noSizes : Sizes
 noSizes = record { layout = 0 ∷ 0 ∷ 0 ∷ 0 ∷ 0 ∷ 0 ∷ []; length = 0 }
 

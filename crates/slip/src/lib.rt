@@ -13,7 +13,7 @@ ghost use Rattle.clock.specs.Update.{valuesOutside, rateTooWide};
 ghost use Rattle.slip.specs.Layout.{bare, timeWidth, rateField, rateOf, rateFieldEnd, flaggedWidth, widths, slipLength};
 ghost use Rattle.slip.specs.Reading.{refusedBy, readingSlip};
 ghost use Rattle.slip.specs.Writing.{valuesOf, slipOf, writingTable, writing, outcome};
-ghost use Rattle.slip.specs.Parts.{sizes, headerBits, headerIn, opening, refusedOpening, refusedFront, fronting, judging, Small};
+ghost use Rattle.slip.specs.Parts.{sizes, headerBitsIn, headerIn, opening, refusedOpening, refusedFront, fronting, judging, Small};
 use clock::Clock;
 use clock::Request;
 use tables::next;
@@ -104,28 +104,16 @@ pub fn slip_length(word: u64) -> usize
     sizes.length
 }
 
-// The slip on the front of the bytes, whatever follows it. Here the bits are taken, and nothing else is done.
-fn read_front(bytes: &[u8]) -> Front
-    ensures { λ r. ⌜ r ≡ fronting (now (bytes .entry)) ⌝ }
-{
-    let header = fields::take(bytes, 0, header_bits(bytes.len()));
-    let opened = opening_of(bytes, header);
-    let sizes = opened.sizes;
-    let layout = sizes.layout;
-    let values = fields::take_six(bytes, layout);
-    front_of(bytes, opened, values)
-}
+// ---- the parts of a reading that take no bits, which every reader shares
 
-// ---- the parts of a reading that take no bits, for every reader that takes them in its own way
-
-// The bits of the header that are there: all, or none of bytes that are too few for it.
-pub fn header_bits(size: usize) -> usize
-    ensures { λ r. ⌜ r ≡ headerBits size ⌝ }
+// How many bits of the header there are: none where the bytes are too few for one.
+pub fn header_bits_in(size: usize) -> usize
+    ensures { λ r. ⌜ r ≡ headerBitsIn size ⌝ }
 {
     if size < HEADER_LENGTH { 0 } else { HEADER_BITS }
 }
 
-// What the header calls for that was taken from the front of these bytes. The sizes are worked out here, once.
+// What the header of these bytes calls for, which was taken from their front. The sizes are worked out here, once.
 pub fn opening_of(bytes: &[u8], header: u64) -> Opened
     requires { ⌜ header ≡ headerIn (now bytes) ⌝ }
     ensures { λ r. ⌜ r ≡ opening (now (bytes .entry)) ⌝ }
@@ -148,7 +136,8 @@ pub fn opening_of(bytes: &[u8], header: u64) -> Opened
     }
 }
 
-// The reading of the front of these bytes, of what their header calls for and the values that were taken.
+// What is read on the front of these bytes, from what their header calls for and the fields that were taken by it. The
+// bytes are handed over for the contract alone.
 pub fn front_of(bytes: &[u8], opened: Opened, values: [u64; 6]) -> Front
     requires { ⌜ (opened ≡ opening (now bytes)) × (values ≡ fields (now bytes) 0 (opened .sizes .layout)) ⌝ }
     ensures { λ r. ⌜ r ≡ fronting (now (bytes .entry)) ⌝ }
@@ -161,7 +150,7 @@ pub fn front_of(bytes: &[u8], opened: Opened, values: [u64; 6]) -> Front
     }
 }
 
-// The strict reading of these bytes, of that of their front: none may be left over.
+// What is read where these bytes are a single slip, from what was read on their front: none may be left over.
 pub fn single_of(bytes: &[u8], front: Front) -> Received
     requires { ⌜ front ≡ fronting (now bytes) ⌝ }
     ensures { λ r. ⌜ r ≡ readingSlip (now (bytes .entry)) ⌝ }
@@ -172,6 +161,20 @@ pub fn single_of(bytes: &[u8], front: Front) -> Received
     } else {
         received
     }
+}
+
+// ---- what stands behind these
+
+// The slip on the front of the bytes, whatever follows it. Here the bits are taken, and nothing else is done.
+fn read_front(bytes: &[u8]) -> Front
+    ensures { λ r. ⌜ r ≡ fronting (now (bytes .entry)) ⌝ }
+{
+    let header = fields::take(bytes, 0, header_bits_in(bytes.len()));
+    let opened = opening_of(bytes, header);
+    let sizes = opened.sizes;
+    let layout = sizes.layout;
+    let values = fields::take_six(bytes, layout);
+    front_of(bytes, opened, values)
 }
 
 fn refused_opening(refusal: u8) -> Opened

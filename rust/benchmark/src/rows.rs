@@ -16,7 +16,7 @@ pub struct Row {
     pub name: String,
     pub library: Side,
     pub plain: Side,
-    /// Of slips that are read.
+    /// The reader by bits, where slips are read.
     pub by_bits: Option<Side>,
 }
 
@@ -198,10 +198,19 @@ mod tests {
     use super::*;
     use ffi::{REFERENCE, Request, VERSION_2};
 
-    /// A row is made only where both sides answer alike on all of its inputs.
+    /// A row is made only where all sides answer alike on all of its inputs.
     #[test]
-    fn both_sides_answer_alike() {
+    fn all_sides_answer_alike() {
         assert_eq!(rows().len(), 24);
+    }
+
+    /// At most half the time of bit by bit (02, R-3), by the quickest of some passes of each.
+    #[test]
+    fn full_slips_are_read_in_half_the_time() {
+        let mut row = slip_reading("full slips", inputs::slips(&mut Dice(1), FULL));
+        let quickest = |side: &mut Side| (0..20).map(|_| side(1)).fold(f64::INFINITY, f64::min);
+        let by_bits = quickest(&mut row.by_bits.expect("the reader by bits"));
+        assert!(2.0 * quickest(&mut row.library) <= by_bits);
     }
 
     /// Updates both sides' clock and reads it up to 4000.

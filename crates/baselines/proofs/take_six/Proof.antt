@@ -53,36 +53,6 @@ module _ (s : tie.Start) where
   inside : AllInside (s .args .bytes .now) 0 (width 0 ∷ width 1 ∷ width 2 ∷ width 3 ∷ width 4 ∷ width 5 ∷ [])
   inside = subst (AllInside (s .args .bytes .now) 0) (sym all) (s .pre)
 
-get-requires : tie.Need-get-requires
-get-requires c κs =
-    let p = inside (first c) in
-    (omega (arith, p .0), p .1 .0, omega (arith, p .2))
-
-get-requires-2 : tie.Need-get-requires-2
-get-requires-2 c κs =
-    let p = inside (second c) in
-    (omega (arith, p .0), p .1 .1 .0, omega (arith, p .2))
-
-get-requires-3 : tie.Need-get-requires-3
-get-requires-3 c κs =
-    let p = inside (third c) in
-    (omega (arith, p .0), p .1 .1 .1 .0, omega (arith, p .2))
-
-get-requires-4 : tie.Need-get-requires-4
-get-requires-4 c κs =
-    let p = inside (fourth c) in
-    (omega (arith, p .0), p .1 .1 .1 .1 .0, omega (arith, p .2))
-
-get-requires-5 : tie.Need-get-requires-5
-get-requires-5 c κs =
-    let p = inside (fifth c) in
-    (omega (arith, p .0), p .1 .1 .1 .1 .1 .0, omega (arith, p .2))
-
-get-requires-6 : tie.Need-get-requires-6
-get-requires-6 c κs =
-    let p = inside (sixth c) in
-    (omega (arith, p .0), p .1 .1 .1 .1 .1 .1 .0, omega (arith, p .2))
-
 returns : tie.Need-returns
 returns c =
     let c5 = c .before in
@@ -109,15 +79,15 @@ take-six-spec =
     (λ c. search needs)
     (λ c. omega (arith, inside (first c) .2))
     (λ c. search needs)
-    get-requires
+    (λ c κs. let p = inside (first c) in (omega (arith, p .0), p .1 .0, omega (arith, p .2)))
     (λ c. search needs)
-    get-requires-2
+    (λ c κs. let p = inside (second c) in (omega (arith, p .0), p .1 .1 .0, omega (arith, p .2)))
     (λ c. search needs)
-    get-requires-3
+    (λ c κs. let p = inside (third c) in (omega (arith, p .0), p .1 .1 .1 .0, omega (arith, p .2)))
     (λ c. search needs)
-    get-requires-4
+    (λ c κs. let p = inside (fourth c) in (omega (arith, p .0), p .1 .1 .1 .1 .0, omega (arith, p .2)))
     (λ c. search needs)
-    get-requires-5
+    (λ c κs. let p = inside (fifth c) in (omega (arith, p .0), p .1 .1 .1 .1 .1 .0, omega (arith, p .2)))
     (λ c. search needs)
-    get-requires-6
+    (λ c κs. let p = inside (sixth c) in (omega (arith, p .0), p .1 .1 .1 .1 .1 .1 .0, omega (arith, p .2)))
     returns)

@@ -12,7 +12,7 @@ returns : tie.Need-returns
 returns c =
     let known = c .before in
     let s = start c in
-    c .joined .ensures ∙ field-eight (s .args .bytes .now) (s .args .i) (s .pre) (λ j. known .shared-slice-known9 .given j .fits)
+    c .joined .ensures ∙ field-eight (s .args .bytes .now) (s .args .first) (s .pre) (λ j. known .shared-slice-known9 .given j .fits)
 
 pub eight-spec : {M : Type 1} → statement M
 eight-spec =

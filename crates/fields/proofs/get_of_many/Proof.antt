@@ -13,7 +13,7 @@ use Rattle.fields.proofs.get_of_many.Tie as tie
 
 -- ---- the steps back from where the eight bytes are known, and from the ninth
 
-abbrev window : tie.After-eight → tie.After-window
+abbrev window : tie.After-eight → tie.After-window-start
 window c = c .before
 
 abbrev start : tie.After-eight → tie.Start
@@ -30,18 +30,18 @@ eight c =
 -- ---- the needs
 
 shl-value : tie.Need-shl-value
-shl-value c = omega (arith, window c .window .ensures)
+shl-value c = omega (arith, window c .window-start .ensures)
 
 add-if1 : tie.Need-add-if1
-add-if1 c = record { fits = omega (arith, window c .window .ensures) }
+add-if1 c = record { fits = omega (arith, window c .window-start .ensures) }
 
 returns : tie.Need-returns
 returns c =
     let e = c .before in
     let a = start e .args in
-    let i = window e .window .result in
+    let i = window e .window-start .result in
     ap (λ (x : ℕ). x * 2 ^ (a .place - 8 * i) % 2 ^ 64 / 2 ^ (64 - a .width)) (e .eight .ensures)
-    ∙ window-in (a .bytes .now) (8 * i) (a .place) (a .width) (omega arith) (omega arith) (omega arith)
+    ∙ window-in (a .bytes .now) (8 * i) 64 (a .place) (a .width) (a .place - 8 * i) (omega arith) (omega arith) (omega arith) (omega arith)
 
 module _ (c : tie.After-wide) where
   abbrev bytes : List ℕ
@@ -54,11 +54,11 @@ module _ (c : tie.After-wide) where
   width = start (eight c) .args .width
 
   abbrev first : ℕ
-  first = window (eight c) .window .result
+  first = window (eight c) .window-start .result
 
   -- the window begins at the field's byte, and a byte follows it
   near : place < 8 * first + 8
-  near = omega (arith, window (eight c) .window .ensures)
+  near = omega (arith, window (eight c) .window-start .ensures)
 
   value
       : eight c .eight .result * 2 ^ (place - 8 * first) % 2 ^ 64 / 2 ^ (64 - width) + c .wide .result / 2 ^ (72 - (place - 8 * first) - width)

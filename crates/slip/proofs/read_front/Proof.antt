@@ -1,34 +1,27 @@
-use mathlib.Core.Path.{sym, ap, _∙_, subst}
-use Rattle.fields.specs.Field.{field, Inside}
-use Rattle.fields.specs.Record.{AllInside}
-use Rattle.slip.specs.declared.Opened.{Opened}
-use Rattle.slip.proofs.Openings.{header-inside, opening-inside}
+use Rattle.slip.proofs.Openings.{header-inside, header-taken, opening-inside}
 use borrow.Author.Needs.{needs}
 use Rattle.slip.proofs.read_front.Statement.{statement}
 use Rattle.slip.proofs.read_front.Tie as tie
 
-abbrev start : tie.After-header-bits → tie.Start
+abbrev start : tie.After-header-bits-in → tie.Start
 start c =
     let known = c .before in
     known .before
 
 take-requires : tie.Need-take-requires
-take-requires c κs =
-    let l = start c .args .bytes .now in
-    subst (Inside l 0) (sym (c .header-bits .ensures)) (header-inside l)
+take-requires c κs = header-inside (start c .args .bytes .now) (c .header-bits-in .result) (c .header-bits-in .ensures)
 
 opening-of-requires : tie.Need-opening-of-requires
 opening-of-requires c κs =
     let bits = c .before in
-    c .take .ensures ∙ ap (field (start bits .args .bytes .now) 0) (bits .header-bits .ensures)
+    header-taken (start bits .args .bytes .now) (bits .header-bits-in .result) (bits .header-bits-in .ensures) (c .take .result) (c .take .ensures)
 
 take-six-requires : tie.Need-take-six-requires
 take-six-requires c κs =
     let sizes = c .before in
     let opened = sizes .before in
     let taken = opened .before in
-    let l = start (taken .before) .args .bytes .now in
-    subst (λ (o : Opened). AllInside l 0 (o .sizes .layout)) (sym (opened .opening-of .ensures)) (opening-inside l)
+    opening-inside (start (taken .before) .args .bytes .now) (opened .opening-of .result) (opened .opening-of .ensures)
 
 pub read-front-spec : {M : Type 1} → statement M
 read-front-spec =
