@@ -5,6 +5,7 @@ pub mod Words
 pub mod Windows
 pub mod Over
 pub mod Writing
+pub mod Waiting
 pub mod Records
 pub mod Turns
 pub mod Buffers

@@ -1,7 +1,7 @@
 -- Rows of bits and the numbers that they stand for.
 use mathlib.Core.Path.{_≡_, refl, sym, ap, ap₂, _∙_}
 use mathlib.Core.Bool.{Bool, true, false}
-use mathlib.Core.List.{List, [], _∷_, _++_, append-assoc}
+use mathlib.Core.List.{List, [], _∷_, _++_}
 use Prim.Native.Nat.{ℕ, zero, suc, _+_, _*_, _/_, _%_, _^_, _<_}
 use native.Mathlib.Nat.{zero-add, add-assoc, add-mul, mul-assoc, mul-comm, zero-mul, mod-one, pow-zero, pow-suc, mod-lt, mod-eq-of-lt}
 use native.Mathlib.Omega.{arith}
@@ -9,7 +9,7 @@ use native.Mathlib.Numerals.{one-add}
 use lib.Dec.{eqb}
 use lib.ListN.{length, take, drop, length-append}
 use lib.Seq.{take-at, drop-at}
-use lib.Pow.{pow-add, mod-pow-add, high, low}
+use lib.Pow.{pow-add, pow-pos, mod-pow-add, high, low}
 use lib.Arith.{digits-lt}
 use Rattle.fields.specs.Bits.{digit, number, odd, digits}
 
@@ -82,8 +82,11 @@ digits-number a =
     number-inj _ _ (length-digits (length a) (number a)) (number-digits (length a) (number a) ∙ mod-eq-of-lt (number-lt a))
 
 -- the low bits are all that counts
-pub digits-low : (k n m : ℕ) → n % 2 ^ k ≡ m % 2 ^ k → digits k n ≡ digits k m
+digits-low : (k n m : ℕ) → n % 2 ^ k ≡ m % 2 ^ k → digits k n ≡ digits k m
 digits-low k n m e = number-inj _ _ (simp length-digits) (simp (number-digits, e))
+
+pub digits-mod : (k n : ℕ) → digits k (n % 2 ^ k) ≡ digits k n
+digits-mod k n = digits-low k (n % 2 ^ k) n (mod-eq-of-lt (mod-lt n (pow-pos k)))
 
 pub digits-append : (j k n : ℕ) → digits (j + k) n ≡ digits j (n / 2 ^ k) ++ digits k n
 digits-append j k n =
@@ -91,7 +94,7 @@ digits-append j k n =
     (simp (length-append (digits j (n / 2 ^ k)) (digits k n), length-digits))
     (simp (number-append (digits j (n / 2 ^ k)) (digits k n), length-digits, number-digits, mod-pow-add n j k))
 
-pub digits-three : (o k r n : ℕ) → digits (o + (k + r)) n ≡ digits o (n / 2 ^ (k + r)) ++ (digits k (n / 2 ^ r) ++ digits r n)
+digits-three : (o k r n : ℕ) → digits (o + (k + r)) n ≡ digits o (n / 2 ^ (k + r)) ++ (digits k (n / 2 ^ r) ++ digits r n)
 digits-three o k r n = digits-append o (k + r) n ∙ ap (λ (t : List Bool). digits o (n / 2 ^ (k + r)) ++ t) (digits-append k r n)
 
 -- k bits from bit o on of a number of o + (k + r) bits
@@ -103,16 +106,8 @@ digits-part o k r n =
     )
     (take-at (digits k (n / 2 ^ r)) (digits r n) k (length-digits k (n / 2 ^ r)))
 
--- a number put together of h, k bits v and r bits l
-pub digits-joined
-    : (o k r h v l : ℕ) → v < 2 ^ k → l < 2 ^ r
-    → digits (o + (k + r)) ((h * 2 ^ k + v) * 2 ^ r + l) ≡ digits o h ++ (digits k v ++ digits r l)
-digits-joined o k r h v l hv hl =
-    ap (λ (w : ℕ). digits w ((h * 2 ^ k + v) * 2 ^ r + l)) (sym (add-assoc o k r))
-    ∙ digits-append (o + k) r ((h * 2 ^ k + v) * 2 ^ r + l)
-    ∙ ap₂ {C = List Bool} (λ a b. a ++ b)
-    (ap (digits (o + k)) (high (h * 2 ^ k + v) r hl)
-    ∙ digits-append o k (h * 2 ^ k + v)
-    ∙ ap₂ {C = List Bool} (λ a b. a ++ b) (ap (digits o) (high h k hv)) (digits-low k _ _ (low h k hv ∙ sym (mod-eq-of-lt hv))))
-    (digits-low r _ _ (low (h * 2 ^ k + v) r hl ∙ sym (mod-eq-of-lt hl)))
-    ∙ append-assoc (digits o h) (digits k v) (digits r l)
+-- a number put together of h and k bits v
+pub digits-joined : (o k h v : ℕ) → v < 2 ^ k → digits (o + k) (h * 2 ^ k + v) ≡ digits o h ++ digits k v
+digits-joined o k h v hv =
+    digits-append o k (h * 2 ^ k + v)
+    ∙ ap₂ {C = List Bool} (λ a b. a ++ b) (ap (digits o) (high h k hv)) (digits-low k _ _ (low h k hv ∙ sym (mod-eq-of-lt hv)))

@@ -1,5 +1,5 @@
 -- A row with some bits replaced.
-use mathlib.Core.Path.{_≡_, sym, ap, ap₂, _∙_}
+use mathlib.Core.Path.{_≡_, refl, sym, ap, ap₂, _∙_}
 use mathlib.Core.Bool.{Bool}
 use mathlib.Core.List.{List, [], _++_, append-assoc, append-nil}
 use Prim.Native.Nat.{ℕ, _+_, _≤_}
@@ -7,10 +7,11 @@ use native.Mathlib.Nat.{add-zero}
 use native.Mathlib.Omega.{arith}
 use lib.ListN.{length, take, drop, length-append, length-drop, take-append-drop}
 use lib.Seq.{drop-append-add, take-append-seam, drop-drop, drop-at, length-take-le}
+use Rattle.fields.specs.Bits.{digits}
 use Rattle.fields.specs.Field.{over}
 
 -- a row, cut around w bits from a place on
-pub cut : (r : List Bool) (place w : ℕ) → r ≡ take place r ++ (take w (drop place r) ++ drop (place + w) r)
+cut : (r : List Bool) (place w : ℕ) → r ≡ take place r ++ (take w (drop place r) ++ drop (place + w) r)
 cut r place w =
     sym (take-append-drop place r)
     ∙ ap (λ (t : List Bool). take place r ++ t) (sym (take-append-drop w (drop place r)) ∙ ap (λ (t : List Bool). take w (drop place r) ++ t) (drop-drop w place r))
@@ -32,6 +33,20 @@ over-part r a m new s place e l h = ap₂ (λ (x : List Bool) (n : ℕ). over x 
 pub over-none : (r : List Bool) (place : ℕ) → over r place [] ≡ r
 unfolding over
 over-none r place = rw (append-nil (take place r), add-zero place) (take-append-drop place r)
+
+pub over-no-digits : (r : List Bool) (place w v : ℕ) → w ≡ 0 → over r place (digits w v) ≡ r
+unfolding digits
+over-no-digits r place w v e = ap (λ (n : ℕ). over r place (digits n v)) e ∙ over-none r place
+
+pub over-all : (r new : List Bool) → length r ≡ length new → over r 0 new ≡ new
+over-all r new e = over-part r [] r new [] 0 (sym (append-nil r)) refl e ∙ append-nil new
+
+-- the bits that stand there already
+pub over-own : (r : List Bool) (place k : ℕ) → place + k ≤ length r → over r place (take k (drop place r)) ≡ r
+over-own r place k h =
+    over-part r (take place r) (take k (drop place r)) (take k (drop place r)) (drop (place + k) r) place
+    (cut r place k) (length-take-le place r (omega arith)) refl
+    ∙ sym (cut r place k)
 
 -- two that follow each other are one
 pub over-over

@@ -1,12 +1,13 @@
 // Packed fields: numbers of 0 to 64 bits that stand in bytes one after another, most significant bit first.
 ghost use mathlib.Core.Path.{_≡_};
 ghost use mathlib.Core.List.{[], _∷_};
-ghost use Prim.Native.Nat.{_+_, _-_, _*_, _/_, _^_, _≤_, _<_, min};
+ghost use Prim.Native.Nat.{_+_, _-_, _*_, _/_, _%_, _^_, _≤_, _<_, min};
 ghost use lib.ListN.{length};
 ghost use Rattle.fields.specs.Bits.{digits, row};
 ghost use Rattle.fields.specs.Field.{field, over, Inside};
 ghost use Rattle.fields.specs.Record.{packed, fields, AllInside};
 ghost use Rattle.fields.specs.Reader.{readerAt, movedOn};
+ghost use Rattle.fields.specs.Pending.{reach, merged, Ready, Together};
 
 // The lent bytes, and the place of the next field in bits.
 pub struct Reader<'a> {
@@ -181,20 +182,21 @@ fn joined(a: u8, b: u8, c: u8, d: u8, e: u8, f: u8, g: u8, h: u8) -> u64
         | (h as u64)
 }
 
-// Writes the `width` low bits of the value from a place on. Every other bit stays.
+// Writes the `width` low bits of the value from a place on. Every other bit stays: those before the field in its first
+// byte wait in front of it. Width 0 stands apart: there may be no byte at its place.
 pub fn put(buf: &mut [u8], place: usize, width: usize, value: u64)
     requires { ⌜ Inside (now buf) place width ⌝ }
     ensures { λ _. ⌜ row (now (buf .exit)) ≡ over (row (now (buf .entry))) place (digits width value) ⌝ }
 {
-    let mut n: usize = 0;
-    while n < width {
-        let p = place + n;
-        let i = p / 8;
-        let b = (value >> (width - n - 1)) % 2;
-        let x = with_bit(buf[i], p % 8, b);
-        buf[i] = x;
-        n += 1;
+    if width == 0 {
+        return;
     }
+    let first = place / 8;
+    let count = place % 8;
+    let word = front_bits(buf[first], count);
+    let before = Pending { word, count, first };
+    let pending = add(&mut *buf, before, width, value);
+    finish(&mut *buf, pending);
 }
 
 // Writes fields of the given widths, one after another from the first bit on. Every other bit stays.
@@ -202,38 +204,124 @@ pub fn put_all(buf: &mut [u8], widths: &[usize], values: &[u64])
     requires { ⌜ (length (now values) ≡ length (now widths)) × AllInside (now buf) 0 (now widths) ⌝ }
     ensures { λ _. ⌜ row (now (buf .exit)) ≡ over (row (now (buf .entry))) 0 (packed (now (widths .entry)) (now (values .entry))) ⌝ }
 {
-    let mut place: usize = 0;
+    let mut pending = Pending {
+        word: 0,
+        count: 0,
+        first: 0,
+    };
     let mut i: usize = 0;
     while i < widths.len() {
         let w = widths[i];
         let v = values[i];
-        put(&mut *buf, place, w, v);
-        place += w;
+        pending = add(&mut *buf, pending, w, v);
         i += 1;
     }
+    finish(&mut *buf, pending);
+}
+
+// Bits that wait to be written from the byte `first` on: the first `count` of the word, whose others are 0.
+struct Pending {
+    word: u64,
+    count: usize,
+    first: usize,
+}
+
+// The bits that wait with a field behind them. Once they fill the word, it is written, and what is left of the field
+// waits. No number can be shifted by 64: so width 0 stands apart, and what is left is shifted in two steps.
+fn add(buf: &mut [u8], pending: Pending, width: usize, value: u64) -> Pending
+    requires { ⌜ Ready 64 pending × (reach pending + width ≤ 8 * length (now buf)) × (width ≤ 64) ⌝ }
+    ensures { λ r. ⌜ Together 64 (now (buf .exit)) r (over (merged (now (buf .entry)) pending) (reach pending) (digits width value)) (reach pending + width) ⌝ }
+{
+    if width == 0 {
+        return pending;
+    }
+    let Pending { word, count, first } = pending;
+    let word = word + ((value << (64 - width)) >> count);
+    let count = count + width;
+    if count < 64 {
+        return Pending { word, count, first };
+    }
+    store(&mut *buf, first, 8, word);
+    let left = count - 64;
+    Pending {
+        word: (value << (63 - left)) << 1,
+        count: left,
+        first: first + 8,
+    }
+}
+
+// Writes the bits that wait, by four bytes, two and one; what is left of them goes into the front of a byte.
+fn finish(buf: &mut [u8], pending: Pending)
+    requires { ⌜ Ready 64 pending × (reach pending ≤ 8 * length (now buf)) ⌝ }
+    ensures { λ _. ⌜ row (now (buf .exit)) ≡ merged (now (buf .entry)) pending ⌝ }
+{
+    let pending = drain(&mut *buf, pending, 4);
+    let pending = drain(&mut *buf, pending, 2);
+    let pending = drain(&mut *buf, pending, 1);
+    let Pending { word, count, first } = pending;
+    if count != 0 {
+        let x = with_front(buf[first], count, word);
+        buf[first] = x;
+    }
+}
+
+// Writes the first `bytes` bytes of the bits that wait, where as many wait. Of fewer than twice as many, fewer than these
+// are left.
+fn drain(buf: &mut [u8], pending: Pending, bytes: usize) -> Pending
+    requires { ⌜ Ready (16 * bytes) pending × (reach pending ≤ 8 * length (now buf)) × (bytes ≤ 4) ⌝ }
+    ensures { λ r. ⌜ Together (8 * bytes) (now (buf .exit)) r (merged (now (buf .entry)) pending) (reach pending) ⌝ }
+{
+    let Pending { word, count, first } = pending;
+    let bits = 8 * bytes;
+    if count < bits {
+        return pending;
+    }
+    store(&mut *buf, first, bytes, word >> (64 - bits));
+    Pending {
+        word: word << bits,
+        count: count - bits,
+        first: first + bytes,
+    }
+}
+
+// Writes the low `bytes` bytes of a number from the byte `first` on, the highest of them first.
+fn store(buf: &mut [u8], first: usize, bytes: usize, number: u64)
+    requires { ⌜ (bytes ≤ 8) × (first + bytes ≤ length (now buf)) ⌝ }
+    ensures { λ _. ⌜ row (now (buf .exit)) ≡ over (row (now (buf .entry))) (8 * first) (digits (8 * bytes) number) ⌝ }
+{
+    let mut i: usize = 0;
+    while i < bytes {
+        let x = low_byte(number >> (8 * (bytes - 1 - i)));
+        buf[first + i] = x;
+        i += 1;
+    }
+}
+
+// The first `count` bits of a byte, as the first of a word. They are shifted up in two steps, since there may be none.
+fn front_bits(byte: u8, count: usize) -> u64
+    requires { ⌜ count < 8 ⌝ }
+    ensures { λ r. ⌜ r ≡ byte / 2 ^ (8 - count) * 2 ^ (64 - count) ⌝ }
+{
+    ((wide(byte) >> (8 - count)) << (8 - count)) << 56
+}
+
+// The byte with its first `count` bits replaced by those of a word, which has no others.
+fn with_front(byte: u8, count: usize, word: u64) -> u8
+    requires { ⌜ (count < 8) × (word % 2 ^ (64 - count) ≡ 0) ⌝ }
+    ensures { λ x. ⌜ digits 8 x ≡ over (digits 8 byte) 0 (digits count (word / 2 ^ (64 - count))) ⌝ }
+{
+    let rest = (wide(byte) << (56 + count)) >> (56 + count);
+    ((word >> 56) + rest) as u8
+}
+
+fn low_byte(x: u64) -> u8
+    ensures { λ r. ⌜ r ≡ x % 256 ⌝ }
+{
+    (x % 256) as u8
 }
 
 fn wide(x: u8) -> u64
     ensures { λ r. ⌜ r ≡ x ⌝ }
 {
     x as u64
-}
-
-fn power(k: usize) -> u64
-    requires { ⌜ k < 64 ⌝ }
-    ensures { λ r. ⌜ r ≡ 2 ^ k ⌝ }
-{
-    1u64 << k
-}
-
-// A byte with b, 0 or 1, as its bit `o`.
-fn with_bit(byte: u8, o: usize, b: u64) -> u8
-    requires { ⌜ (o < 8) × (b < 2) ⌝ }
-    ensures { λ x. ⌜ digits 8 x ≡ over (digits 8 byte) o (digits 1 b) ⌝ }
-{
-    let k = 7 - o;
-    let unit = power(k);
-    let w = wide(byte);
-    let x = ((w >> (1 + k)) * 2 + b) * unit + w % unit;
-    x as u8
 }

@@ -1,81 +1,68 @@
-use mathlib.Core.Path.{_≡_, sym, ap, _∙_}
+use mathlib.Core.Path.{_≡_, sym, ap₂, _∙_}
 use mathlib.Core.Bool.{Bool}
 use mathlib.Core.List.{List}
-use Prim.Native.Nat.{ℕ, _-_, _/_, _^_, _≤_}
-use native.Mathlib.Nat.{sub-self, div-one}
+use Prim.Native.Nat.{ℕ, _+_, _*_, _/_, _%_}
 use native.Mathlib.Omega.{arith}
-use lib.ListN.{length, length-set}
 use Rattle.fields.specs.Bits.{digits, row}
 use Rattle.fields.specs.Field.{over}
-use Rattle.fields.proofs.Over.{over-none}
-use Rattle.fields.proofs.Writing.{put-step}
+use Rattle.fields.specs.Pending.{merged, Ready}
+use Rattle.fields.specs.declared.Pending.{Pending}
+use Rattle.fields.proofs.Over.{over-no-digits}
+use Rattle.fields.proofs.Waiting.{front-waits}
+use borrow.Author.Needs.{needs}
 use Rattle.fields.proofs.put.Statement.{statement}
 use Rattle.fields.proofs.put.Tie as tie
 
-abbrev Inv-loop : tie.InvT-loop
-Inv-loop buf₀ place width value n₀ buf n =
-    (n ≤ width) × (length buf ≡ length buf₀) × (row buf ≡ over (row buf₀) place (digits n (value / 2 ^ (width - n))))
-
-abbrev μ-loop : tie.MeasureT-loop
-μ-loop buf₀ place width value n₀ buf n = width - n
-
--- ---- the steps back from the loop, and from the end of a turn
-
-abbrev start : tie.At-loop Inv-loop μ-loop → tie.Start Inv-loop μ-loop
+abbrev start : tie.After-front-bits → tie.Start
 start c =
-    let buf = c .before in
-    buf .before
+    let read = c .before in
+    let some = read .before in
+    let known = some .before in
+    known .before
 
-abbrev loop : tie.After-with-bit Inv-loop μ-loop → tie.At-loop Inv-loop μ-loop
-loop c =
-    let buf = c .before in
-    let turn = buf .before in
-    turn .before
-
--- ---- the field before the first turn and after the last
-
-none : (r : List Bool) (place v : ℕ) → over r place (digits 0 v) ≡ r
-unfolding digits
-none r place v = over-none r place
-
-all : (w n v : ℕ) → n ≡ w → digits n (v / 2 ^ (w - n)) ≡ digits w v
-all w n v e = rw (e, sub-self w, div-one v)
-
-loop-holds : tie.Need-loop-holds Inv-loop μ-loop
-loop-holds c = (omega arith, omega arith, sym (none (row (c .before .args .buf .now)) (c .before .args .place) _))
-
-loop-again : tie.Need-loop-again Inv-loop μ-loop
-loop-again c =
-    let a = start (loop c) .args in
-    let l = loop c .loop in (
-      omega arith,
-      simp length-set (omega arith),
-      put-step (a .buf .now) (l .buf) (a .place) (l .n) 1 (a .width) (a .value) (c .with-bit .result) (l .inv .1) (l .inv .2)
-          (omega arith) (omega arith) (omega arith) (omega arith) (c .with-bit .ensures),
-    )
-
-returns : tie.Need-returns Inv-loop μ-loop
+-- a field of no bits
+returns : tie.Need-returns
 returns c =
-    let a = start (c .before) .args in
-    c .before .loop .inv .2
-    ∙ ap (over (row (a .buf .now)) (a .place)) (all (a .width) (c .before .loop .n) (a .value) (omega arith))
+    let known = c .before in
+    let a = known .before .args in
+    sym (over-no-digits (row (a .buf .now)) (a .place) (a .width) (a .value) (omega arith))
+
+-- the bits before the field, as they wait
+abbrev before : tie.After-front-bits → Pending
+before c = let a = start c .args in record { word = c .front-bits .result; count = a .place % 8; first = a .place / 8 }
+
+front : (c : tie.After-front-bits) → Ready 64 (before c) × (merged (start c .args .buf .now) (before c) ≡ row (start c .args .buf .now))
+front c =
+    let a = start c .args in
+    front-waits (a .buf .now) (a .place / 8) (a .place % 8) (c .front-bits .result) (search needs) (omega arith) (c .front-bits .ensures)
+
+add-requires : tie.Need-add-requires
+add-requires c κs = (front (c .before) .0, search needs, search needs)
+
+returns-2 : tie.Need-returns-2
+returns-2 c =
+    let known = c .before in
+    let finish = known .before in
+    let lent = finish .before in
+    let known₁ = lent .before in
+    let buf = known₁ .before in
+    let add = buf .before in
+    let lent₁ = add .before in
+    let bits = lent₁ .before in
+    let a = start bits .args in
+    let place : 8 * (a .place / 8) + a .place % 8 ≡ a .place = omega arith in
+    finish .finish .ensures
+    ∙ add .add .ensures .merges
+    ∙ ap₂ (λ (r : List Bool) (p : ℕ). over r p (digits (a .width) (a .value))) (front bits .1) place
 
 pub put-spec : {M : Type 1} → statement M
 put-spec =
     tie.close
     (tie.spec
-    Inv-loop
-    μ-loop
-    loop-holds
-    (λ c. omega arith)
-    (λ c. omega arith)
-    (λ c. omega arith)
-    (λ c. omega arith)
-    (λ c. omega arith)
-    (λ c κs. omega arith)
-    (λ c. omega arith)
-    (λ c. omega arith)
-    (λ c. omega arith)
-    loop-again
-    (λ c. omega arith)
-    returns)
+    returns
+    (λ c. search needs)
+    (λ c κs. search needs)
+    add-requires
+    (λ c κs. search needs)
+    (λ c. search needs)
+    returns-2)
