@@ -308,15 +308,24 @@ fn sizes_of(word: u64) -> Sizes
     Sizes { layout, length }
 }
 
-// Why a request can't be written into a buffer of this size, 0 where it can.
+// Why a request can't be written into a buffer of this size, 0 where it can. It ends at the first test that applies: a
+// request that is written passes four tests, and no number is picked.
 fn writing_refusal(request: Request, size: usize) -> u8
     ensures { λ r. ⌜ r ≡ first (writingTable request size) ⌝ }
 {
-    let length = slip_length(request.word);
-    let r = next(0, request.word_wrong(), refusal::WORD_WRONG);
-    let r = next(r, request.values_outside(), refusal::VALUE_OUTSIDE);
-    let r = next(r, request.rate_too_wide(), refusal::RATE_OUTSIDE);
-    next(r, size < length, refusal::BUFFER_SHORT)
+    if request.word_wrong() {
+        return refusal::WORD_WRONG;
+    }
+    if request.values_outside() {
+        return refusal::VALUE_OUTSIDE;
+    }
+    if request.rate_too_wide() {
+        return refusal::RATE_OUTSIDE;
+    }
+    if size < slip_length(request.word) {
+        return refusal::BUFFER_SHORT;
+    }
+    0
 }
 
 // Writes the slip of a request that fits, into a buffer that has room for it.
