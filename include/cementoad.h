@@ -263,8 +263,8 @@ CEMENTOAD_ANSWERS
 struct cementoad_received cementoad_read_slip(const uint8_t *bytes, size_t length);
 
 /* Writes the request as a slip to the front of the buffer, or answers refusal 3, 5, 6 or 21. No other byte is touched,
- * and none where it is refused. The old bytes have no effect, but they are read: fill a new buffer before lending
- * it. */
+ * and none where it is refused. The old bytes have no effect, but lent bytes count as filled: fill a new buffer before
+ * lending it. */
 CEMENTOAD_ANSWERS
 struct cementoad_written cementoad_write_slip(struct cementoad_request request, uint8_t *buffer, size_t size);
 

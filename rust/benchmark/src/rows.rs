@@ -204,13 +204,24 @@ mod tests {
         assert_eq!(rows().len(), 24);
     }
 
-    /// At most half the time of bit by bit (02, R-3), by the quickest of some passes of each.
+    /// What the quickest of some passes took.
+    fn quickest(side: &mut Side) -> f64 {
+        (0..20).map(|_| side(1)).fold(f64::INFINITY, f64::min)
+    }
+
+    /// At most half the time of bit by bit (02, R-3).
     #[test]
     fn full_slips_are_read_in_half_the_time() {
         let mut row = slip_reading("full slips", inputs::slips(&mut Dice(1), FULL));
-        let quickest = |side: &mut Side| (0..20).map(|_| side(1)).fold(f64::INFINITY, f64::min);
         let by_bits = quickest(&mut row.by_bits.expect("the reader by bits"));
         assert!(2.0 * quickest(&mut row.library) <= by_bits);
+    }
+
+    /// Our own mark is lower, 0.6, and for a release (docs/PERFORMANCE.md): here plain Rust also tests for overflow.
+    #[test]
+    fn full_slips_are_written_no_slower_than_by_plain_rust() {
+        let mut row = slip_writing("full slips", inputs::writings(&mut Dice(1), FULL));
+        assert!(quickest(&mut row.library) <= quickest(&mut row.plain));
     }
 
     /// Updates both sides' clock and reads it up to 4000.
