@@ -106,8 +106,9 @@ digits-part o k r n =
     )
     (take-at (digits k (n / 2 ^ r)) (digits r n) k (length-digits k (n / 2 ^ r)))
 
--- a number put together of h and k bits v
-pub digits-joined : (o k h v : ℕ) → v < 2 ^ k → digits (o + k) (h * 2 ^ k + v) ≡ digits o h ++ digits k v
-digits-joined o k h v hv =
-    digits-append o k (h * 2 ^ k + v)
-    ∙ ap₂ {C = List Bool} (λ a b. a ++ b) (ap (digits o) (high h k hv)) (digits-low k _ _ (low h k hv ∙ sym (mod-eq-of-lt hv)))
+-- a number put together of h and the k low bits of v
+pub digits-joined : (o k h v : ℕ) → digits (o + k) (h * 2 ^ k + v % 2 ^ k) ≡ digits o h ++ digits k v
+digits-joined o k h v =
+    let lt : v % 2 ^ k < 2 ^ k = mod-lt v (pow-pos k) in
+    digits-append o k (h * 2 ^ k + v % 2 ^ k)
+    ∙ ap₂ {C = List Bool} (λ a b. a ++ b) (ap (digits o) (high h k lt)) (digits-low k (h * 2 ^ k + v % 2 ^ k) v (low h k lt))

@@ -1,12 +1,12 @@
--- Bits that wait to be written: a field behind them, bytes of them that go out, and those that share a byte with others.
+-- Bits that wait to be written: a field behind them, bytes of them that go out, and those that share a byte.
 use mathlib.Core.Path.{_≡_, sym, ap, ap₂, _∙_, subst}
 use mathlib.Core.Bool.{Bool}
 use mathlib.Core.List.{List, _++_, append-assoc}
 use Prim.Native.Nat.{ℕ, _+_, _-_, _*_, _/_, _%_, _^_, _≤_, _<_}
-use native.Mathlib.Nat.{add-zero, add-mul, mod-lt}
+use native.Mathlib.Nat.{add-zero, add-mul}
 use native.Mathlib.Omega.{arith}
 use lib.ListN.{length, take, drop, getD, set}
-use lib.Pow.{pow-add, pow-pos, shl-lt, shr-lt, shl-exact, shl-shr, shr-shr, field}
+use lib.Pow.{pow-add, shl-lt, shr-lt, shl-exact, shl-shr, shr-shr, field}
 use lib.Arith.{digits-lt}
 use Rattle.fields.specs.Bits.{digits, row}
 use Rattle.fields.specs.Field.{over}
@@ -76,8 +76,7 @@ module _ (x c w v : ℕ) (hc : c < 64) (clear : x % 2 ^ (64 - c) ≡ 0) (hw : w 
       let sum = shifted-waits (front x c * 2 ^ w + v % 2 ^ w) (c + w) r (sum-short r e) in (
         sum .0,
         sum .1
-            ∙ digits-joined c w (front x c) (v % 2 ^ w) (mod-lt v (pow-pos w))
-            ∙ ap (λ (t : List Bool). digits c (front x c) ++ t) (digits-mod w v),
+            ∙ digits-joined c w (front x c) v,
       )
 
   -- the word is full, and r bits of the field are left
@@ -97,9 +96,7 @@ module _ (x c w v : ℕ) (hc : c < 64) (clear : x % 2 ^ (64 - c) ≡ 0) (hw : w 
       let all : 64 ≡ c + k = omega arith in
       let wide : k + r ≡ w = omega arith in
       ap (λ (t : List Bool). t ++ digits r v)
-      (ap₂ digits all (sum-full r e)
-      ∙ digits-joined c k (front x c) (v / 2 ^ r % 2 ^ k) (mod-lt (v / 2 ^ r) (pow-pos k))
-      ∙ ap (λ (t : List Bool). digits c (front x c) ++ t) (digits-mod k (v / 2 ^ r)))
+      (ap₂ digits all (sum-full r e) ∙ digits-joined c k (front x c) (v / 2 ^ r))
       ∙ append-assoc (digits c (front x c)) (digits k (v / 2 ^ r)) (digits r v)
       ∙ ap (λ (t : List Bool). digits c (front x c) ++ t) (sym (digits-append k r v) ∙ ap (λ (j : ℕ). digits j v) wide)
 
@@ -201,7 +198,7 @@ drained l p bytes ready few inside l2 e h =
 -- ---- fewer bits than a byte has
 
 -- those that wait in the word x, before the other bits of the byte b
-module _ (x c b : ℕ) (fits : x < 2 ^ 64) (h : c < 8) (clear : x % 2 ^ (64 - c) ≡ 0) where
+module _ (x c b : ℕ) (h : c < 8) (clear : x % 2 ^ (64 - c) ≡ 0) where
   byte-sum : x / 2 ^ 56 + b * 2 ^ (56 + c) % 2 ^ 64 / 2 ^ (56 + c) ≡ front x c * 2 ^ (8 - c) + b % 2 ^ (8 - c)
   byte-sum =
       let up : 64 - c ≡ 8 - c + 56 = omega arith in
@@ -210,10 +207,10 @@ module _ (x c b : ℕ) (fits : x < 2 ^ 64) (h : c < 8) (clear : x % 2 ^ (64 - c)
       (ap (λ (y : ℕ). y / 2 ^ (56 + c)) (shl-word b (8 - c) (56 + c) (omega arith)) ∙ shl-shr (b % 2 ^ (8 - c)) (56 + c))
 
   pub byte-digits : digits 8 (x / 2 ^ 56 + b * 2 ^ (56 + c) % 2 ^ 64 / 2 ^ (56 + c)) ≡ over (digits 8 b) 0 (digits c (front x c))
-  byte-digits = ap (digits 8) byte-sum ∙ front-digits b c (front x c) (omega arith) (front-lt x c fits (omega arith))
+  byte-digits = ap (digits 8) byte-sum ∙ front-digits b c (front x c) (omega arith)
 
-  pub byte-fits : x / 2 ^ 56 + b * 2 ^ (56 + c) % 2 ^ 64 / 2 ^ (56 + c) < 256
-  byte-fits = subst (λ (y : ℕ). y < 256) (sym byte-sum) (front-fits b c (front x c) (omega arith) (front-lt x c fits (omega arith)))
+  pub byte-fits : x < 2 ^ 64 → x / 2 ^ 56 + b * 2 ^ (56 + c) % 2 ^ 64 / 2 ^ (56 + c) < 256
+  byte-fits fits = subst (λ (y : ℕ). y < 256) (sym byte-sum) (front-fits b c (front x c) (omega arith) (front-lt x c fits (omega arith)))
 
 pub last-written
     : (l : List ℕ) (p : Pending) (x : ℕ) → digits 8 x ≡ over (digits 8 (getD l (p .first) 0)) 0 (waiting p) → p .count < 8 → p .first < length l

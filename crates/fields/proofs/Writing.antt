@@ -40,21 +40,20 @@ front-written l i x new e le h =
     lp lo)
 
 -- a number whose first k bits are replaced
-front-replaced : (b k r v : ℕ) → v < 2 ^ k → digits (k + r) (v * 2 ^ r + b % 2 ^ r) ≡ over (digits (k + r) b) 0 (digits k v)
-front-replaced b k r v h =
-    digits-joined k r v (b % 2 ^ r) (mod-lt b (pow-pos r))
-    ∙ ap (λ (t : List Bool). digits k v ++ t) (digits-mod r b)
+front-replaced : (b k r v : ℕ) → digits (k + r) (v * 2 ^ r + b % 2 ^ r) ≡ over (digits (k + r) b) 0 (digits k v)
+front-replaced b k r v =
+    digits-joined k r v b
     ∙ sym (over-part (digits (k + r) b) [] (digits k (b / 2 ^ r)) (digits k v) (digits r b) 0 (digits-append k r b) refl (simp length-digits))
 
-module _ (b k v : ℕ) (hk : k ≤ 8) (hv : v < 2 ^ k) where
+module _ (b k v : ℕ) (hk : k ≤ 8) where
   eight : k + (8 - k) ≡ 8
   eight = omega arith
 
   pub front-digits : digits 8 (v * 2 ^ (8 - k) + b % 2 ^ (8 - k)) ≡ over (digits 8 b) 0 (digits k v)
-  front-digits = rw eight at (front-replaced b k (8 - k) v hv)
+  front-digits = rw eight at (front-replaced b k (8 - k) v)
 
-  pub front-fits : v * 2 ^ (8 - k) + b % 2 ^ (8 - k) < 256
-  front-fits =
+  pub front-fits : v < 2 ^ k → v * 2 ^ (8 - k) + b % 2 ^ (8 - k) < 256
+  front-fits hv =
       subst (λ (n : ℕ). v * 2 ^ (8 - k) + b % 2 ^ (8 - k) < 2 ^ n) eight
       (rw (pow-add 2 k (8 - k)) (digits-lt hv (mod-lt b (pow-pos (8 - k)))))
 

@@ -265,8 +265,8 @@ fn finish(buf: &mut [u8], pending: Pending)
     }
 }
 
-// Writes the first `bytes` bytes of the bits that wait, where as many wait. Of fewer than twice as many, fewer than these
-// are left.
+// Writes the first `bytes` bytes of the bits that wait, where as many wait. Of fewer than twice as many, fewer than
+// these are left.
 fn drain(buf: &mut [u8], pending: Pending, bytes: usize) -> Pending
     requires { ⌜ Ready (16 * bytes) pending × (reach pending ≤ 8 * length (now buf)) × (bytes ≤ 4) ⌝ }
     ensures { λ r. ⌜ Together (8 * bytes) (now (buf .exit)) r (merged (now (buf .entry)) pending) (reach pending) ⌝ }

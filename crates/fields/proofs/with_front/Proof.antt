@@ -12,7 +12,7 @@ use Rattle.fields.proofs.with_front.Tie as tie
 byte : (c : tie.After-wide) → c .before .args .word / 2 ^ 56 + c .wide .result * 2 ^ (56 + c .before .args .count) % 2 ^ 64 / 2 ^ (56 + c .before .args .count) < 256
 byte c =
     let s = c .before in
-    byte-fits (s .args .word) (s .args .count) (c .wide .result) (s .fits .word .fits) (s .pre .0) (s .pre .1)
+    byte-fits (s .args .word) (s .args .count) (c .wide .result) (s .pre .0) (s .pre .1) (s .fits .word .fits)
 
 add-result : tie.Need-add-result
 add-result c = record { fits = omega (arith, byte c) }
@@ -23,7 +23,7 @@ cast-result c = record { fits = byte c }
 returns : tie.Need-returns
 returns c =
     let s = c .before in
-    byte-digits (s .args .word) (s .args .count) (c .wide .result) (s .fits .word .fits) (s .pre .0) (s .pre .1)
+    byte-digits (s .args .word) (s .args .count) (c .wide .result) (s .pre .0) (s .pre .1)
     ∙ ap (λ (b : ℕ). over (digits 8 b) 0 (digits (s .args .count) (s .args .word / 2 ^ (64 - s .args .count)))) (c .wide .ensures)
 
 pub with-front-spec : {M : Type 1} → statement M
