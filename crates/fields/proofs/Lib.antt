@@ -11,3 +11,4 @@ pub mod Turns
 pub mod Buffers
 pub mod Cells
 pub mod Carried
+pub mod Lents

@@ -6,11 +6,11 @@ use Prim.Native.Nat.{ℕ, _+_, _*_, _/_, _%_, _^_, _≤_, _<_}
 use native.Mathlib.Nat.{mod-eq-of-lt}
 use native.Mathlib.Omega.{arith}
 use lib.ListN.{length, take, drop, getD, length-drop}
-use lib.Seq.{take-add, drop-drop, take-at, drop-at, length-take-le}
+use lib.Seq.{take-add, drop-drop, take-at, drop-at, take-append-le, drop-append-le, length-take-le}
 use Rattle.fields.specs.Bits.{number, digits, row}
 use Rattle.fields.specs.Field.{field}
 use Rattle.fields.proofs.Numbers.{length-digits, number-append, number-lt, number-digits, digits-number}
-use Rattle.fields.proofs.Rows.{length-row, row-byte}
+use Rattle.fields.proofs.Rows.{length-row, row-append, row-byte}
 
 pub field-lt : (l : List ℕ) (place w : ℕ) → place + w ≤ 8 * length l → field l place w < 2 ^ w
 unfolding field
@@ -42,6 +42,14 @@ field-there l place w v before after e len h =
     ∙ ap number (take-at (digits w v) after w (length-digits w v))
     ∙ number-digits w v
     ∙ mod-eq-of-lt h
+
+-- bytes behind those that it lies in do not count
+pub field-ahead : (l more : List ℕ) (place w : ℕ) → place + w ≤ 8 * length l → field (l ++ more) place w ≡ field l place w
+unfolding field
+field-ahead l more place w h =
+    ap (λ (r : List Bool). number (take w (drop place r))) (row-append l more)
+    ∙ ap (λ (r : List Bool). number (take w r)) (drop-append-le place (row l) (row more) (omega (arith, length-row l)))
+    ∙ ap number (take-append-le w (drop place (row l)) (row more) (omega (arith, length-drop place (row l), length-row l)))
 
 -- a field, as a shorter one and what follows it
 pub field-more : (l : List ℕ) (place n k : ℕ) → place + (n + k) ≤ 8 * length l → field l place (n + k) ≡ field l place n * 2 ^ k + field l (place + n) k
