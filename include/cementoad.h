@@ -26,7 +26,7 @@ extern "C" {
 
 /* The version of the boundary that this header declares. It goes up with every change of a struct, a function or a
  * number that callers were built with, and with every new refusal. */
-#define CEMENTOAD_ABI 3
+#define CEMENTOAD_ABI 4
 
 /* The archive's version. Where it differs from CEMENTOAD_ABI, this header is too old or too new for the archive, and
  * nothing else of it may be called. */
@@ -221,9 +221,10 @@ struct cementoad_detailed {
     struct cementoad_details details;
 };
 
-/* A request, read from a slip, beside its refusal, which leaves it zeros. */
+/* A request, read from a slip, and how many bytes the slip used, beside its refusal, which leaves both zeros. */
 struct cementoad_received {
     struct cementoad_request request;
+    size_t length;
     uint8_t refusal;
 };
 
@@ -258,9 +259,16 @@ bool cementoad_is_started(struct cementoad_clock clock);
 /* ---- slips. A pointer leads to as many bytes as the next argument says, and is never NULL, not even for 0 bytes.
  * Nobody else writes there during the call. */
 
-/* The request of a slip that is all of the bytes, or refusal 3, 6, 18, 19 or 20. */
+/* The request of the slip on the front of the bytes, whatever follows it, or refusal 3, 6, 18 or 19. It never answers
+ * 20: where nothing may follow the slip, call cementoad_read_single_slip. The answer's length says how many bytes the
+ * slip used; the rest begins at bytes + length and has size - length bytes. To read slips in a row, go on with the rest
+ * until it has no bytes, and stop where a slip is refused: its length is 0, and a loop that goes on never ends. */
 CEMENTOAD_ANSWERS
-struct cementoad_received cementoad_read_slip(const uint8_t *bytes, size_t length);
+struct cementoad_received cementoad_read_slip(const uint8_t *bytes, size_t size);
+
+/* The request of a slip that is all of the bytes, or refusal 3, 6, 18, 19 or, tested last, 20. */
+CEMENTOAD_ANSWERS
+struct cementoad_received cementoad_read_single_slip(const uint8_t *bytes, size_t size);
 
 /* Writes the request as a slip to the front of the buffer, or answers refusal 3, 5, 6 or 21. No other byte is touched,
  * and none where it is refused. The old bytes have no effect, but lent bytes count as filled: fill a new buffer before

@@ -1,4 +1,5 @@
-/* A clock is created, set, trimmed and read, with its requests passed on as slips; then two refusals are met. */
+/* A clock is created, set, trimmed and read, with its requests passed on as slips; slips are read in a row; then two
+ * refusals are met. */
 #include <inttypes.h>
 #include <stdio.h>
 #include <stdlib.h>
@@ -43,19 +44,42 @@ static void print_details(struct cementoad_clock clock, int64_t now)
            line.synthetic, line.reference, line.rate, detailed.details.generation);
 }
 
+/* Writes the request as a slip to the front of the buffer. The answer is its length. */
+static size_t write_slip(struct cementoad_request request, uint8_t *buffer, size_t size)
+{
+    struct cementoad_written written = cementoad_write_slip(request, buffer, size);
+    taken("write slip", written.refusal);
+    return written.length;
+}
+
 /* The request, written as a slip and read back from its bytes. */
 static struct cementoad_request by_slip(struct cementoad_request request)
 {
     uint8_t slip[CEMENTOAD_LONGEST_SLIP] = {0};
-    struct cementoad_written written = cementoad_write_slip(request, slip, sizeof slip);
-    taken("write slip", written.refusal);
+    size_t length = write_slip(request, slip, sizeof slip);
     printf("slip of %zu bytes:", cementoad_slip_length(request.word));
-    for (size_t i = 0; i < written.length; i++)
+    for (size_t i = 0; i < length; i++)
         printf(" %02X", slip[i]);
     printf("\n");
-    struct cementoad_received received = cementoad_read_slip(slip, written.length);
-    taken("read slip", received.refusal);
+    struct cementoad_received received = cementoad_read_single_slip(slip, length);
+    taken("read single slip", received.refusal);
     return received.request;
+}
+
+/* Reads slips one after another, to the end of their bytes or to one that is refused. */
+static void print_row(const uint8_t *bytes, size_t size)
+{
+    while (size > 0) {
+        struct cementoad_received received = cementoad_read_slip(bytes, size);
+        if (received.refusal != CEMENTOAD_NO_REFUSAL) {
+            printf("the next slip gets refusal %d, and %zu bytes are left\n", received.refusal, size);
+            return;
+        }
+        uint64_t word = received.request.word;
+        printf("the next slip, of word %016" PRIX64 ", uses %zu of %zu bytes\n", word, received.length, size);
+        bytes += received.length;
+        size -= received.length;
+    }
 }
 
 int main(void)
@@ -85,6 +109,13 @@ int main(void)
     print_reading(clock, 1000100);
     print_reading(clock, 2000100);
     print_details(clock, 2000100);
+
+    printf("both slips are written in a row, and the first bytes of a third\n");
+    uint8_t row[3 * CEMENTOAD_LONGEST_SLIP] = {0};
+    size_t size = write_slip(set, row, sizeof row);
+    size += write_slip(trim, row + size, sizeof row - size);
+    size += write_slip(set, row + size, sizeof row - size);
+    print_row(row, size - 7);
 
     /* A refused update hands the clock back unaltered. */
     trim.rate = 1001;

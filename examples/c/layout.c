@@ -59,6 +59,7 @@ static void structs(void)
     FIELD(detailed, details);
     STRUCT(received);
     FIELD(received, request);
+    FIELD(received, length);
     FIELD(received, refusal);
     STRUCT(written);
     FIELD(written, length);

@@ -4,30 +4,20 @@ ghost use mathlib.Core.Path.{_≡_};
 ghost use Prim.Native.Nat.{_-_, _/_, _%_, _^_, _<_};
 ghost use Rattle.fields.specs.Field.{field, Inside};
 ghost use Rattle.fields.specs.Record.{fields, AllInside};
-ghost use Rattle.slip.specs.Reading.{readingSlip};
-ghost use Rattle.slip.specs.Parts.{fronting};
-use slip::Front;
+ghost use Rattle.slip.specs.Reading.{readingFront};
 use slip::Received;
 
-// The request of a slip that is all of the bytes.
+// The slip on the front of the bytes, whatever follows it.
 #[no_mangle]
 pub extern "C" fn baselines_read_slip(bytes: &[u8]) -> Received
-    ensures { λ r. ⌜ r ≡ readingSlip (now (bytes .entry)) ⌝ }
-{
-    let front = read_front(bytes);
-    slip::single_of(bytes, front)
-}
-
-// The slip on the front of the bytes, whatever follows it.
-fn read_front(bytes: &[u8]) -> Front
-    ensures { λ r. ⌜ r ≡ fronting (now (bytes .entry)) ⌝ }
+    ensures { λ r. ⌜ r ≡ readingFront (now (bytes .entry)) ⌝ }
 {
     let header = get(bytes, 0, slip::header_bits_in(bytes.len()));
     let opened = slip::opening_of(bytes, header);
     let sizes = opened.sizes;
     let layout = sizes.layout;
     let values = take_six(bytes, layout);
-    slip::front_of(bytes, opened, values)
+    slip::received_of(bytes, opened, values)
 }
 
 // The fields of six widths, one after another from the first bit on.

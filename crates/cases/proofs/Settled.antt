@@ -15,12 +15,13 @@ use Rattle.fields.specs.Bits.{number, digits, row, bytesOf}
 use Rattle.fields.specs.Field.{field}
 use Rattle.fields.specs.Record.{packed, fields}
 use Rattle.slip.specs.Layout.{widths, slipLength, padding, layout}
-use Rattle.slip.specs.Reading.{headed, valuesIn, headerTable, fieldsTable, frontTable, slipTable, readingSlip}
+use Rattle.slip.specs.Reading.{headed, valuesIn, headerTable, fieldsTable, frontTable, readingFront, readingSingle}
 use Rattle.slip.specs.Writing.{valuesOf, slipOf, writingTable, writing}
+use Rattle.slip.specs.Row.{rowAfter, readingRow}
 use Rattle.demands.specs.Ideal.{idealAt, historyOf, rateBefore, changed, noted}
 use Rattle.cases.specs.Case.{all}
 use Rattle.cases.specs.Table.{table}
 
 pub cases-settled : all table ≡ true
-unfolding isZeros bounded reaches drawable mayRun asCreated isClock guarded outside timeOutside rateOutside stepOutside exactAt valueAt remainderAt turned oldLine timeTable creationTable creationRefusal created creating clockValue readingTable reading wordWrong valuesOutside rateTooWide point effect newLine requestTable newLineTable updateTable nextGeneration updated updating detailsTable detailsOf detailing refusalOf accepted after idealAt historyOf rateBefore changed noted number digits row bytesOf field packed fields widths slipLength padding layout headed valuesIn headerTable fieldsTable frontTable slipTable readingSlip valuesOf slipOf writingTable writing
+unfolding isZeros bounded reaches drawable mayRun asCreated isClock guarded outside timeOutside rateOutside stepOutside exactAt valueAt remainderAt turned oldLine timeTable creationTable creationRefusal created creating clockValue readingTable reading wordWrong valuesOutside rateTooWide point effect newLine requestTable newLineTable updateTable nextGeneration updated updating detailsTable detailsOf detailing refusalOf accepted after idealAt historyOf rateBefore changed noted number digits row bytesOf field packed fields widths slipLength padding layout headed valuesIn headerTable fieldsTable frontTable readingFront readingSingle rowAfter readingRow valuesOf slipOf writingTable writing
 cases-settled = refl

@@ -3,7 +3,7 @@
 // clock.
 ghost use mathlib.Core.Path.{_≡_};
 ghost use Rattle.slip.specs.Layout.{bare, slipLength};
-ghost use Rattle.slip.specs.Reading.{readingSlip};
+ghost use Rattle.slip.specs.Reading.{readingFront, readingSingle};
 ghost use Rattle.slip.specs.Writing.{writing, outcome};
 ghost use Rattle.clock.specs.Reading.{reading};
 ghost use Rattle.clock.specs.Update.{updating};
@@ -19,7 +19,7 @@ use slip::Written;
 
 // The version of the boundary: one more with each change of a struct, a function or a number that callers were built
 // with, and with each new refusal.
-pub const ABI: u32 = 3;
+pub const ABI: u32 = 4;
 
 // A new clock. A refused creation gives zeros, which are no clock.
 #[repr(C)]
@@ -82,9 +82,18 @@ pub extern "C" fn cementoad_is_started(clock: Clock) -> bool
 
 #[no_mangle]
 pub extern "C" fn cementoad_read_slip(bytes: &[u8]) -> Received
-    ensures { λ r. ⌜ r ≡ readingSlip (now (bytes .entry)) ⌝ }
+    ensures { λ r. ⌜ r ≡ readingFront (now (bytes .entry)) ⌝ }
 {
     slip::read(bytes)
+}
+
+// By way of the export above: so the archive has the reading once, compiled into that (docs/PERFORMANCE.md).
+#[no_mangle]
+pub extern "C" fn cementoad_read_single_slip(bytes: &[u8]) -> Received
+    ensures { λ r. ⌜ r ≡ readingSingle (now (bytes .entry)) ⌝ }
+{
+    let received = cementoad_read_slip(bytes);
+    slip::single_of(bytes, received)
 }
 
 #[no_mangle]

@@ -1,5 +1,6 @@
 // The Rattle examples of README.md and docs/REFERENCE.md, run: a line for what each of them answers, and the constant
 // that no contract names.
+mod second_of_two;
 mod shown;
 mod started;
 mod there_and_back;
@@ -16,5 +17,8 @@ fn main() {
     print::end();
     print::write(b"there and back: ");
     print::signed(print::wide(there_and_back::there_and_back()));
+    print::end();
+    print::write(b"second of two: ");
+    print::signed(print::wide(second_of_two::second_of_two()));
     print::end();
 }

@@ -13,7 +13,7 @@ pub fn there_and_back() -> i32 {
     let written = slip::write(trim, &mut buffer);
     let length = written.length;
     if length <= slip::MAX_LENGTH {
-        let received = slip::read(&buffer[0..length]);
+        let received = slip::read_single(&buffer[0..length]);
         let request = received.request;
         request.rate
     } else {

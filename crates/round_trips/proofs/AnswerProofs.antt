@@ -1,23 +1,53 @@
 -- Demand 1, of slips: each answer is what its table says, and what isn't flagged does not count.
-use mathlib.Core.Path.{_≡_, refl}
-use mathlib.Core.Bool.{false}
-use mathlib.Core.List.{List}
-use Prim.Native.Nat.{ℕ}
+use mathlib.Core.Path.{_≡_, refl, sym, ap, _∙_, subst}
+use mathlib.Core.Bool.{Bool, true, false, cond, _&&_}
+use mathlib.Core.List.{List, [], _∷_, _++_}
+use Prim.Native.Nat.{ℕ, zero, suc}
+use lib.Dec.{ltb, eqb·suc-zero}
 use lib.IntN.{ℤ}
 use lib.ListN.{length}
+use Rattle.tables.specs.Tables.{Row, _when_, first, answerTo, answer, Settled}
+use Rattle.tables.proofs.Tables.{first-passed, first-refused, suc-not-zero, settled}
 use Rattle.clock.specs.Numbers.{bit}
 use Rattle.clock.specs.Update.{wordWrong, valuesOutside, rateTooWide}
 use Rattle.clock.specs.declared.Request.{Request}
-use Rattle.tables.proofs.Tables.{settled}
 use Rattle.clock.proofs.Requests.{ignored}
 use Rattle.slip.specs.Layout.{widths, slipLength, padding, layout}
-use Rattle.slip.specs.Reading.{headed, valuesIn, headerTable, fieldsTable, frontTable, slipTable, received, refusedBy, readingSlip}
+use Rattle.slip.specs.Reading.{headed, headerTable, fieldsTable, frontTable, received, refusedBy, leftOver, readingFront, readingSingle}
 use Rattle.slip.specs.Writing.{valuesOf, slipOf, writingTable, Outcome, filled, untouched, writing}
-use Rattle.round_trips.specs.Answers.{Demand1·readSlip, Demand1·writeSlip, SameSlip}
+use Rattle.slip.specs.declared.Received.{Received}
+use Rattle.round_trips.specs.Answers.{Demand1·readSlip, singleTable, Demand1·readSingleSlip, Demand1·writeSlip, SameSlip}
 
 pub demand1·read-slip : Demand1·readSlip
-unfolding readingSlip slipTable frontTable headerTable fieldsTable
-demand1·read-slip bytes = settled (slipTable bytes) (received (headed bytes) (valuesIn bytes)) refusedBy tt
+unfolding readingFront frontTable headerTable fieldsTable
+demand1·read-slip bytes = settled (frontTable bytes) (received bytes) refusedBy tt
+
+-- the strict reading is what 01's rows say
+single-told : (bytes : List ℕ) → readingSingle bytes ≡ answer (singleTable bytes) (received bytes) refusedBy
+unfolding readingSingle readingFront frontTable headerTable fieldsTable
+single-told bytes = go (first (frontTable bytes)) refl
+  where
+    told : ℕ → Received
+    told n = answerTo n (received bytes) refusedBy
+
+    last : List Row
+    last = 20 when ltb (slipLength (headed bytes)) (length bytes) ∷ []
+
+    long : (b : Bool) → cond b (refusedBy 20) (received bytes) ≡ told (first (20 when b ∷ []))
+    long true = refl
+    long false = refl
+
+    go : (n : ℕ) → first (frontTable bytes) ≡ n → cond (leftOver (told n) (length bytes)) (refusedBy 20) (told n) ≡ told (first (frontTable bytes ++ last))
+    go zero e = long (ltb (slipLength (headed bytes)) (length bytes)) ∙ ap told (sym (first-passed (frontTable bytes) last tt e))
+    go (suc n) e =
+        ap (λ (b : Bool). cond (b && ltb 0 (length bytes)) (refusedBy 20) (refusedBy (suc n))) (eqb·suc-zero n)
+        ∙ ap told (sym e ∙ sym (first-refused (frontTable bytes) last (λ z. suc-not-zero n (sym e ∙ z))))
+
+pub demand1·read-single-slip : Demand1·readSingleSlip
+unfolding frontTable headerTable fieldsTable
+demand1·read-single-slip bytes =
+    subst (λ (r : Received). Settled (singleTable bytes) r (received bytes) refusedBy) (sym (single-told bytes))
+    (settled (singleTable bytes) (received bytes) refusedBy tt)
 
 pub demand1·write-slip : Demand1·writeSlip
 unfolding writing writingTable

@@ -1,6 +1,9 @@
 pub mod Arguments
 pub mod Fitting
+pub mod Taken
 pub mod Returning
 pub mod Rewriting
+pub mod Following
 pub mod RoundTripProofs
+pub mod RowProofs
 pub mod AnswerProofs

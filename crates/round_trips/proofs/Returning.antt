@@ -23,7 +23,7 @@ use Rattle.fields.specs.Record.{fields}
 use Rattle.fields.proofs.Rows.{row-append}
 use Rattle.fields.proofs.Records.{fields-packed}
 use Rattle.slip.specs.Layout.{headerWidth, headerOf, wordOf, bare, rateField, rateOf, rateFieldEnd, widths, slipLength, layout, headerLength}
-use Rattle.slip.specs.Reading.{headed, valuesIn, rateIn, paddingIn, headerTable, fieldsTable, frontTable, requestOf, received, refusedBy, readingFront, readingSlip}
+use Rattle.slip.specs.Reading.{headed, valuesIn, rateIn, paddingIn, headerTable, fieldsTable, frontTable, requestOf, taken, received, refusedBy, leftOver, readingFront, readingSingle}
 use Rattle.slip.specs.Writing.{valuesOf, slipOf}
 use Rattle.slip.specs.declared.Received.{Received}
 use Rattle.round_trips.specs.RoundTrips.{UnflaggedZero, Sized}
@@ -32,7 +32,6 @@ use Rattle.slip.proofs.Rates.{natural-back}
 use Rattle.round_trips.proofs.Arguments.{rate-back}
 use Rattle.slip.proofs.Writings.{Writable}
 use Rattle.round_trips.proofs.Fitting.{wrong-alike, header-says, synthetic-inside, reference-inside, rate-fits, valuesOf-fit, length-slip, row-slip}
-use Rattle.slip.proofs.Fronts.{strictly, strict}
 
 -- the same request, its arguments 0 where they aren't flagged
 abbrev pub kept : Request → Request
@@ -134,18 +133,18 @@ module _ (u : Request) (w : Writable u) (s : Sized u) (rest : List ℕ) where
         ),
       )
 
-  front-read : readingFront bytes ≡ record { request = kept u; refusal = 0 }
+  pub front-read : readingFront bytes ≡ taken (kept u) (slipLength u)
   unfolding readingFront
   front-read =
-      sym (answered (frontTable bytes) (received (headed bytes) (valuesIn bytes)) refusedBy front-passed)
-      ∙ ap₂ (λ (word : ℕ) (vs : List ℕ). received (bare word) vs) word-there values-read
-      ∙ ap (λ (r : Request). record { request = r; refusal = 0 }) (request-kept u w)
+      sym (answered (frontTable bytes) (received bytes) refusedBy front-passed)
+      ∙ ap₂ (λ (word : ℕ) (vs : List ℕ). taken (requestOf (bare word) vs) (slipLength (headed bytes))) word-there values-read
+      ∙ ap₂ taken (request-kept u w) (length-alike (headed bytes) u word-there)
 
 -- a slip alone
-pub slip-read : (u : Request) → Writable u → Sized u → readingSlip (slipOf u) ≡ record { request = kept u; refusal = 0 }
+pub slip-read : (u : Request) → Writable u → Sized u → readingSingle (slipOf u) ≡ taken (kept u) (slipLength u)
+unfolding readingSingle
 slip-read u w s =
-    let e : readingFront (slipOf u) ≡ record { request = kept u; refusal = 0 } = ap readingFront (sym (append-nil (slipOf u))) ∙ front-read u w s [] in
-    let same : length (slipOf u) ≡ slipLength (kept u) = length-slip u ∙ length-alike u (kept u) refl in
-    sym (strict (slipOf u))
-    ∙ ap₂ (λ (r : Received) (n : ℕ). strictly r (slipLength (r .request)) n) e same
-    ∙ ap (λ (b : Bool). cond b (refusedBy 20) (record { request = kept u; refusal = 0 })) (le-ltb (slipLength (kept u)) (slipLength (kept u)) (omega arith))
+    let r : Received = taken (kept u) (slipLength u) in
+    let e : readingFront (slipOf u) ≡ r = ap readingFront (sym (append-nil (slipOf u))) ∙ front-read u w s [] in
+    ap₂ (λ (x : Received) (n : ℕ). cond (leftOver x n) (refusedBy 20) x) e (length-slip u)
+    ∙ ap (λ (b : Bool). cond b (refusedBy 20) r) (le-ltb (slipLength u) (slipLength u) (omega arith))

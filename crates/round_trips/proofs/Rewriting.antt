@@ -1,17 +1,18 @@
 -- An accepted slip is taken by the writer, and gives the same bytes.
-use mathlib.Core.Path.{_≡_, refl, sym, ap₂, _∙_, subst}
+use mathlib.Core.Path.{_≡_, refl, sym, ap, ap₂, _∙_, subst}
 use mathlib.Core.Bool.{Bool, true, false, not, cond, _&&_}
-use mathlib.Core.List.{List, [], _∷_}
+use mathlib.Core.List.{List, [], _∷_, _++_}
 use Prim.Native.Nat.{ℕ, _^_, _≤_, _<_}
 use native.Mathlib.Nat.{mul-div-cancel, lt-of-lt-of-le}
 use native.Mathlib.Omega.{arith}
 use lib.Dec.{T, eqb, nltb→le, eqb→eq}
 use lib.IntN.{pos, negℤ}
-use lib.ListN.{length, take, getD}
+use lib.ListN.{length, take, drop, getD}
 use lib.Pow.{pow-mono}
+use lib.Seq.{take-length}
 use Rattle.tables.specs.Tables.{first}
-use Rattle.tables.proofs.Tables.{passed, none-applies}
-use mir.Facts.{T-not-not}
+use Rattle.tables.proofs.Tables.{passed, nothing-told}
+use mir.Facts.{T-not-not, no-ltb}
 use Rattle.tables.proofs.Tests.{neither}
 use Rattle.line.specs.Numbers.{outside}
 use Rattle.clock.specs.Numbers.{MAX_RATE, rateOutside}
@@ -23,12 +24,13 @@ use Rattle.fields.specs.Bits.{bytesOf, Bytes}
 use Rattle.fields.specs.Record.{fields, packed}
 use Rattle.fields.proofs.Records.{front}
 use Rattle.slip.specs.Layout.{timeWidth, rateWidth, errorWidth, rateField, rateOf, rateFieldEnd, flaggedWidth, widths, slipLength, layout}
-use Rattle.slip.specs.Reading.{headed, valuesIn, rateIn, paddingIn, headerTable, fieldsTable, frontTable, requestOf}
-use Rattle.slip.specs.Writing.{valuesOf, slipOf}
+use Rattle.slip.specs.Reading.{headed, valuesIn, rateIn, paddingIn, headerTable, fieldsTable, frontTable, requestOf, readingFront}
+use Rattle.slip.specs.Writing.{valuesOf, slipOf, writingTable, Outcome, writing}
+use Rattle.slip.specs.declared.Received.{Received}
 use Rattle.slip.proofs.Layouts.{flagged-le, total-layout, length-alike, layout-alike}
 use Rattle.slip.proofs.Rates.{field-permitted}
-use Rattle.slip.proofs.Fronts.{valuesIn-fit}
-use Rattle.slip.proofs.Writings.{Writable}
+use Rattle.slip.proofs.Fronts.{valuesIn-fit, front-enough, front-passed, front-received}
+use Rattle.slip.proofs.Writings.{Writable, writing-filled}
 use Rattle.round_trips.proofs.Arguments.{flagged-kept, and-fails, within, time-within, rate-again}
 use Rattle.round_trips.proofs.Fitting.{wrong-alike}
 
@@ -55,19 +57,23 @@ six p q r s t u = rw (p, q, r, s, t, u)
 
 -- ---- on the front of any bytes
 
+-- the first n of some bytes, written to the front of a buffer
+abbrev pub copied : ℕ → List ℕ → List ℕ → Outcome
+copied n bytes buffer = record { refusal = 0; length = n; buffer = take n bytes ++ drop n buffer }
+
+-- all of them
+pub copied-all : (bytes buffer : List ℕ) → copied (length bytes) bytes buffer ≡ record { refusal = 0; length = length bytes; buffer = bytes ++ drop (length bytes) buffer }
+copied-all bytes buffer =
+    ap (λ (l : List ℕ). record { refusal = 0; length = length bytes; buffer = l ++ drop (length bytes) buffer }) (take-length bytes)
+
 -- what the reader gives for them
-abbrev pub requestIn : List ℕ → Request
+abbrev requestIn : List ℕ → Request
 requestIn bytes = requestOf (headed bytes) (valuesIn bytes)
 
 module _ (bytes : List ℕ) (z : first (frontTable bytes) ≡ 0) where
   known : T (not (wordWrong (headed bytes)))
   unfolding frontTable headerTable fieldsTable
   known = passed 3 (frontTable bytes) tt z
-
-  -- the second of two rows that tell 18
-  pub enough : slipLength (headed bytes) ≤ length bytes
-  unfolding frontTable headerTable fieldsTable
-  enough = nltb→le (length bytes) (slipLength (headed bytes)) (none-applies (frontTable bytes) tt z .1 .1 .0)
 
   rate-fits : rateIn (valuesIn bytes) ≤ rateFieldEnd
   unfolding frontTable headerTable fieldsTable
@@ -77,13 +83,13 @@ module _ (bytes : List ℕ) (z : first (frontTable bytes) ≡ 0) where
   unfolding frontTable headerTable fieldsTable
   padding-zero = eqb→eq (paddingIn (valuesIn bytes)) 0 (T-not-not (eqb (paddingIn (valuesIn bytes)) 0) (passed 19 (frontTable bytes) tt z))
 
-  pub writable : Writable (requestIn bytes)
+  writable : Writable (requestIn bytes)
   unfolding valuesIn layout widths fields valuesOutside rateTooWide rateOutside
   writable =
       let u = headed bytes in
       let v = requestIn bytes in
       let end = endOf (u .word) in
-      let f = valuesIn-fit bytes enough in
+      let f = valuesIn-fit bytes (front-enough bytes z) in
       let p = rate-read (hasRate u) (rateIn (valuesIn bytes)) rate-fits in
       record {
         word = subst (λ (b : Bool). T (not b)) (wrong-alike u v refl) known;
@@ -98,7 +104,7 @@ module _ (bytes : List ℕ) (z : first (frontTable bytes) ≡ 0) where
   unfolding valuesOf headed valuesIn layout widths fields
   values-again =
       let u = headed bytes in
-      let f = valuesIn-fit bytes enough in
+      let f = valuesIn-fit bytes (front-enough bytes z) in
       six
       (mul-div-cancel (getD (valuesIn bytes) 0 0) (omega arith))
       (flagged-kept (hasSynthetic u) (timeWidth (u .word)) (getD (valuesIn bytes) 1 0) (f .1 .0))
@@ -107,9 +113,29 @@ module _ (bytes : List ℕ) (z : first (frontTable bytes) ≡ 0) where
       (flagged-kept (hasError u) errorWidth (getD (valuesIn bytes) 4 0) (f .1 .1 .1 .1 .0))
       (sym padding-zero)
 
-  pub slip-again : Bytes bytes → slipOf (requestIn bytes) ≡ take (slipLength (headed bytes)) bytes
+  slip-again : Bytes bytes → slipOf (requestIn bytes) ≡ take (slipLength (headed bytes)) bytes
   unfolding slipOf valuesIn
   slip-again hb =
       let u = headed bytes in
       let v = requestIn bytes in
-      ap₂ bytesOf (length-alike v u refl) (ap₂ packed (layout-alike v u refl) values-again) ∙ front (layout u) bytes (slipLength u) hb (total-layout u) enough
+      ap₂ bytesOf (length-alike v u refl) (ap₂ packed (layout-alike v u refl) values-again) ∙ front (layout u) bytes (slipLength u) hb (total-layout u) (front-enough bytes z)
+
+-- ---- written again
+
+-- the writer takes what has room
+takes : (u : Request) (size : ℕ) → Writable u → slipLength u ≤ size → first (writingTable u size) ≡ 0
+unfolding writingTable
+takes u size w h = nothing-told (writingTable u size) (w .word, (w .values, (w .rate, (no-ltb {a = size} {b = slipLength u} h, tt))))
+
+-- the slip on the front, into a buffer with room for it
+pub front-rewritten
+    : (bytes buffer : List ℕ) → Bytes bytes → readingFront bytes .refusal ≡ 0 → readingFront bytes .length ≤ length buffer
+    → writing (readingFront bytes .request) buffer ≡ copied (readingFront bytes .length) bytes buffer
+front-rewritten bytes buffer hb accepted =
+    let v = requestIn bytes in
+    let z = front-passed bytes accepted in
+    let same : slipLength v ≡ slipLength (headed bytes) = length-alike v (headed bytes) refl in
+    subst (λ (r : Received). r .length ≤ length buffer → writing (r .request) buffer ≡ copied (r .length) bytes buffer)
+    (sym (front-received bytes accepted))
+    (λ h. sym (writing-filled v buffer (takes v (length buffer) (writable bytes z) (omega (arith, same))))
+    ∙ ap₂ {C = Outcome} (λ k slip. record { refusal = 0; length = k; buffer = slip ++ drop k buffer }) same (slip-again bytes z hb))

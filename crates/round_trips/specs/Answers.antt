@@ -1,18 +1,26 @@
 -- Demand 1, of slips: each answer is what its table says; a refused reading gives zeros, and a refused writing leaves
 -- every byte. And what isn't flagged does not count.
-use mathlib.Core.List.{List}
+use mathlib.Core.List.{List, [], _∷_, _++_}
 use mathlib.Core.Path.{_≡_}
 use Prim.Native.Nat.{ℕ}
+use lib.Dec.{ltb}
 use lib.ListN.{length}
-use Rattle.tables.specs.Tables.{Settled}
+use Rattle.tables.specs.Tables.{Row, _when_, Settled}
 use Rattle.clock.specs.Update.{SameRequest}
 use Rattle.clock.specs.declared.Request.{Request}
-use Rattle.slip.specs.Reading.{headed, valuesIn, slipTable, received, refusedBy, readingSlip}
+use Rattle.slip.specs.Layout.{slipLength}
+use Rattle.slip.specs.Reading.{headed, frontTable, received, refusedBy, readingFront, readingSingle}
 use Rattle.slip.specs.Writing.{writingTable, filled, untouched, writing}
 
 abbrev pub Demand1·readSlip : Type 0
-Demand1·readSlip = (bytes : List ℕ) →
-    Settled (slipTable bytes) (readingSlip bytes) (received (headed bytes) (valuesIn bytes)) refusedBy
+Demand1·readSlip = (bytes : List ℕ) → Settled (frontTable bytes) (readingFront bytes) (received bytes) refusedBy
+
+-- the rows of a single slip as 01 has them, 20 the last
+abbrev pub singleTable : List ℕ → List Row
+singleTable bytes = frontTable bytes ++ (20 when ltb (slipLength (headed bytes)) (length bytes) ∷ [])
+
+abbrev pub Demand1·readSingleSlip : Type 0
+Demand1·readSingleSlip = (bytes : List ℕ) → Settled (singleTable bytes) (readingSingle bytes) (received bytes) refusedBy
 
 abbrev pub Demand1·writeSlip : Type 0
 Demand1·writeSlip = (u : Request) (buffer : List ℕ) →

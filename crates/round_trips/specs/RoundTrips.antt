@@ -11,7 +11,7 @@ use Rattle.clock.specs.declared.Request.{Request}
 use Rattle.fields.specs.Bits.{Bytes}
 use Rattle.fields.specs.Record.{total}
 use Rattle.slip.specs.Layout.{bare, widths, slipLength, headerLength, fullWord, longest}
-use Rattle.slip.specs.Reading.{headed, readingSlip}
+use Rattle.slip.specs.Reading.{headed, readingFront, readingSingle}
 use Rattle.slip.specs.Writing.{slipOf, writing}
 
 -- ---- written, then read
@@ -29,9 +29,9 @@ Sized u = u .error < 2 ^ 64
 
 -- the bytes read back as the request u
 pub record ReadsAs (u : Request) (bytes : List ℕ) : Type 0 where
-  pub accepted : readingSlip bytes .refusal ≡ 0
-  pub same : SameRequest u (readingSlip bytes .request)
-  pub zero : UnflaggedZero (readingSlip bytes .request)
+  pub accepted : readingSingle bytes .refusal ≡ 0
+  pub same : SameRequest u (readingSingle bytes .request)
+  pub zero : UnflaggedZero (readingSingle bytes .request)
 
 -- every request that writing takes, whatever the room
 abbrev pub ReadsBack : Type 0
@@ -47,8 +47,8 @@ NeverShared = (u v : Request) (left right : List ℕ) → Sized u → Sized v �
 
 -- every slip that reading takes is taken by writing into any buffer with room for it, and gives the same bytes
 abbrev pub Rewritten : Type 0
-Rewritten = (bytes buffer : List ℕ) → Bytes bytes → readingSlip bytes .refusal ≡ 0 → length bytes ≤ length buffer →
-    writing (readingSlip bytes .request) buffer
+Rewritten = (bytes buffer : List ℕ) → Bytes bytes → readingSingle bytes .refusal ≡ 0 → length bytes ≤ length buffer →
+    writing (readingSingle bytes .request) buffer
     ≡ record { refusal = 0; length = length bytes; buffer = bytes ++ drop (length bytes) buffer }
 
 -- ---- lengths
@@ -61,7 +61,11 @@ pub record Measured (u : Request) (n : ℕ) : Type 0 where
   pub bits : total (widths u) ≤ total (widths (bare fullWord))
 
 abbrev pub ReadLength : Type 0
-ReadLength = (bytes : List ℕ) → readingSlip bytes .refusal ≡ 0 → Measured (headed bytes) (length bytes)
+ReadLength = (bytes : List ℕ) → readingFront bytes .refusal ≡ 0 → Measured (headed bytes) (readingFront bytes .length)
+
+-- a single slip is all of the bytes
+abbrev pub SingleLength : Type 0
+SingleLength = (bytes : List ℕ) → readingSingle bytes .refusal ≡ 0 → Measured (headed bytes) (length bytes)
 
 abbrev pub WrittenLength : Type 0
 WrittenLength = (u : Request) (buffer : List ℕ) → writing u buffer .refusal ≡ 0 → Measured u (writing u buffer .length)

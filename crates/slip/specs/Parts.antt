@@ -9,10 +9,10 @@ use Rattle.tables.specs.Tables.{answer}
 use Rattle.clock.specs.declared.Request.{Request}
 use Rattle.fields.specs.Field.{field}
 use Rattle.slip.specs.Layout.{headerWidth, slipLength, layout, headerLength}
-use Rattle.slip.specs.Reading.{headed, valuesIn, headerTable, fieldsTable, frontTable, received, zeroRequest, refusedBy}
+use Rattle.slip.specs.Reading.{headed, headerTable, fieldsTable, requestOf, taken, zeroRequest, refusedBy}
 use Rattle.slip.specs.declared.Sizes.{Sizes}
 use Rattle.slip.specs.declared.Opened.{Opened}
-use Rattle.slip.specs.declared.Front.{Front}
+use Rattle.slip.specs.declared.Received.{Received}
 
 -- the width of each field of a slip, and its length in bytes
 abbrev pub sizes : Request → Sizes
@@ -44,21 +44,9 @@ opening bytes = answer (headerTable bytes) (openedBy (headed bytes)) refusedOpen
 
 -- ---- the fields (6, 19)
 
--- a slip that is taken, and one that is refused, with their lengths
-abbrev pub takenFront : Request → List ℕ → ℕ → Front
-takenFront asked values size = record { received = received asked values; length = size }
-
-abbrev pub refusedFront : ℕ → Front
-refusedFront n = record { received = refusedBy n; length = 0 }
-
--- the reading of the front (`readingFront`), with the slip's length, 0 where it is refused
-unfoldable pub fronting : List ℕ → Front
-fronting bytes =
-    answer (frontTable bytes) (takenFront (headed bytes) (valuesIn bytes) (slipLength (headed bytes))) refusedFront
-
 -- what a slip of this size answers, whose bytes are enough
-unfoldable pub judging : Request → List ℕ → ℕ → Front
-judging asked values size = answer (fieldsTable values) (takenFront asked values size) refusedFront
+unfoldable pub judging : Request → List ℕ → ℕ → Received
+judging asked values size = answer (fieldsTable values) (taken (requestOf asked values) size) refusedBy
 
 -- times that a signed number of 64 bits holds
 pub record Small (values : List ℕ) : Type 0 where

@@ -11,18 +11,20 @@ ghost use Rattle.fields.specs.Record.{fields};
 ghost use Rattle.clock.specs.Clock.{InRange, Permitted};
 ghost use Rattle.clock.specs.Update.{valuesOutside, rateTooWide};
 ghost use Rattle.slip.specs.Layout.{bare, timeWidth, rateField, rateOf, rateFieldEnd, flaggedWidth, widths, slipLength};
-ghost use Rattle.slip.specs.Reading.{refusedBy, readingSlip};
+ghost use Rattle.slip.specs.Reading.{refusedBy, readingFront, readingSingle};
 ghost use Rattle.slip.specs.Writing.{valuesOf, slipOf, writingTable, writing, outcome};
-ghost use Rattle.slip.specs.Parts.{sizes, headerBitsIn, headerIn, opening, refusedOpening, refusedFront, fronting, judging, Small};
+ghost use Rattle.slip.specs.Row.{nextSlip, readingNext};
+ghost use Rattle.slip.specs.Parts.{sizes, headerBitsIn, headerIn, opening, refusedOpening, judging, Small};
 use clock::Clock;
 use clock::Request;
 use tables::next;
 use tables::refusal;
 
-// A request that was read, and its refusal. A refused one is zeros.
+// A request that was read, how many bytes its slip used, and its refusal. A refused one is zeros but for its number.
 #[repr(C)]
 pub struct Received {
     pub request: Request,
+    pub length: usize,
     pub refusal: u8,
 }
 
@@ -47,12 +49,6 @@ pub struct Opened {
     refusal: u8,
 }
 
-// What was read on the front of some bytes, and the slip's length, 0 where it is refused.
-pub struct Front {
-    received: Received,
-    length: usize,
-}
-
 // The bits of the header, of a time, a rate and an error bound. The header is the top of the word.
 const HEADER_BITS: usize = 16;
 
@@ -74,12 +70,55 @@ const HEADER_UNIT: u64 = 1 << (64 - HEADER_BITS);
 // The largest rate field, which stands for the widest rate: a rate is written as a + MAX_RATE.
 const RATE_FIELD_END: u64 = 2 * (Clock::MAX_RATE as u64);
 
-// The request of a slip that is all of the bytes.
+// The slip on the front of the bytes, whatever follows it. Here the bits are taken; the parts below say what they mean.
 pub fn read(bytes: &[u8]) -> Received
-    ensures { λ r. ⌜ r ≡ readingSlip (now (bytes .entry)) ⌝ }
+    ensures { λ r. ⌜ r ≡ readingFront (now (bytes .entry)) ⌝ }
 {
-    let front = read_front(bytes);
-    single_of(bytes, front)
+    let header = fields::take(bytes, 0, header_bits_in(bytes.len()));
+    let opened = opening_of(bytes, header);
+    let sizes = opened.sizes;
+    let layout = sizes.layout;
+    let values = fields::take_six(bytes, layout);
+    received_of(bytes, opened, values)
+}
+
+// The slip on the front of the bytes, told in lent numbers, and the bytes behind it: the caller's own, from the end of
+// the slip on, or all of them where it is refused.
+pub fn read_next<'a>(
+    bytes: &'a [u8],
+    word: &mut u64,
+    synthetic: &mut i64,
+    reference: &mut i64,
+    rate: &mut i32,
+    error: &mut u64,
+    refusal: &mut u8,
+) -> &'a [u8]
+    ensures { λ r. ⌜ nextSlip (word .exit) (synthetic .exit) (reference .exit) (rate .exit) (error .exit) (refusal .exit) r ≡ readingNext (bytes .entry) ⌝ }
+{
+    let received = read(bytes);
+    let Request {
+        word: w,
+        synthetic: s,
+        reference: p,
+        rate: a,
+        error: e,
+    } = received.request;
+    *word = w;
+    *synthetic = s;
+    *reference = p;
+    *rate = a;
+    *error = e;
+    *refusal = received.refusal;
+    let length = received.length;
+    &bytes[length..]
+}
+
+// A slip that is all of the bytes: none may be left over.
+pub fn read_single(bytes: &[u8]) -> Received
+    ensures { λ r. ⌜ r ≡ readingSingle (now (bytes .entry)) ⌝ }
+{
+    let received = read(bytes);
+    single_of(bytes, received)
 }
 
 // Writes the request as a slip to the front of the buffer. No other byte is touched, and none where it is refused.
@@ -104,7 +143,7 @@ pub fn slip_length(word: u64) -> usize
     sizes.length
 }
 
-// ---- the parts of a reading that take no bits, which every reader shares
+// ---- the parts of a reading that take no bits
 
 // How many bits of the header there are: none where the bytes are too few for one.
 pub fn header_bits_in(size: usize) -> usize
@@ -138,44 +177,55 @@ pub fn opening_of(bytes: &[u8], header: u64) -> Opened
 
 // What is read on the front of these bytes, from what their header calls for and the fields that were taken by it. The
 // bytes are handed over for the contract alone.
-pub fn front_of(bytes: &[u8], opened: Opened, values: [u64; 6]) -> Front
+pub fn received_of(bytes: &[u8], opened: Opened, values: [u64; 6]) -> Received
     requires { ⌜ (opened ≡ opening (now bytes)) × (values ≡ fields (now bytes) 0 (opened .sizes .layout)) ⌝ }
-    ensures { λ r. ⌜ r ≡ fronting (now (bytes .entry)) ⌝ }
+    ensures { λ r. ⌜ r ≡ readingFront (now (bytes .entry)) ⌝ }
 {
     if opened.refusal == 0 {
         let sizes = opened.sizes;
         judged(opened.asked, values, sizes.length)
     } else {
-        refused_front(opened.refusal)
+        refused(opened.refusal)
     }
 }
 
-// What is read where these bytes are a single slip, from what was read on their front: none may be left over.
-pub fn single_of(bytes: &[u8], front: Front) -> Received
-    requires { ⌜ front ≡ fronting (now bytes) ⌝ }
-    ensures { λ r. ⌜ r ≡ readingSlip (now (bytes .entry)) ⌝ }
+// What is read where these bytes are a single slip, from what was read on their front: none may be left over. The
+// answer is put together again field by field: one that is copied as a whole waits for memory (docs/PERFORMANCE.md).
+pub fn single_of(bytes: &[u8], received: Received) -> Received
+    requires { ⌜ received ≡ readingFront (now bytes) ⌝ }
+    ensures { λ r. ⌜ r ≡ readingSingle (now (bytes .entry)) ⌝ }
 {
-    let received = front.received;
-    if (received.refusal == 0) & (front.length < bytes.len()) {
+    let Received {
+        request,
+        length,
+        refusal,
+    } = received;
+    let Request {
+        word,
+        synthetic,
+        reference,
+        rate,
+        error,
+    } = request;
+    if (refusal == 0) & (length < bytes.len()) {
         refused(refusal::BYTES_LEFT_OVER)
     } else {
-        received
+        let request = Request {
+            word,
+            synthetic,
+            reference,
+            rate,
+            error,
+        };
+        Received {
+            request,
+            length,
+            refusal,
+        }
     }
 }
 
 // ---- what stands behind these
-
-// The slip on the front of the bytes, whatever follows it. Here the bits are taken, and nothing else is done.
-fn read_front(bytes: &[u8]) -> Front
-    ensures { λ r. ⌜ r ≡ fronting (now (bytes .entry)) ⌝ }
-{
-    let header = fields::take(bytes, 0, header_bits_in(bytes.len()));
-    let opened = opening_of(bytes, header);
-    let sizes = opened.sizes;
-    let layout = sizes.layout;
-    let values = fields::take_six(bytes, layout);
-    front_of(bytes, opened, values)
-}
 
 fn refused_opening(refusal: u8) -> Opened
     ensures { λ r. ⌜ r ≡ refusedOpening refusal ⌝ }
@@ -192,19 +242,9 @@ fn refused_opening(refusal: u8) -> Opened
     }
 }
 
-fn refused_front(refusal: u8) -> Front
-    ensures { λ r. ⌜ r ≡ refusedFront refusal ⌝ }
-{
-    let received = refused(refusal);
-    Front {
-        received,
-        length: 0,
-    }
-}
-
 // The tests of the fields as they stand in a slip of this length, and the request that they give. The values are those
 // of header, synthetic, reference, rate, error and padding.
-fn judged(asked: Request, values: [u64; 6], length: usize) -> Front
+fn judged(asked: Request, values: [u64; 6], length: usize) -> Received
     requires { ⌜ Small values ⌝ }
     ensures { λ r. ⌜ r ≡ judging asked values length ⌝ }
 {
@@ -220,13 +260,13 @@ fn judged(asked: Request, values: [u64; 6], length: usize) -> Front
             rate: rate_of(flags.rate, rate),
             error: values[4],
         };
-        let received = Received {
+        Received {
             request,
+            length,
             refusal: r,
-        };
-        Front { received, length }
+        }
     } else {
-        refused_front(r)
+        refused(r)
     }
 }
 
@@ -253,7 +293,11 @@ fn refused(refusal: u8) -> Received
     ensures { λ r. ⌜ r ≡ refusedBy refusal ⌝ }
 {
     let request = bare(0);
-    Received { request, refusal }
+    Received {
+        request,
+        length: 0,
+        refusal,
+    }
 }
 
 // A request of this word with zero arguments.

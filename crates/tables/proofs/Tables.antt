@@ -80,10 +80,6 @@ pub none-front : (front rows : List Row) → NoneApplies (front ++ rows) → Non
 none-front [] rows a = tt
 none-front ((n when b) ∷ front) rows a = (a .0, none-front front rows (a .1))
 
-pub none-rest : (front rows : List Row) → NoneApplies (front ++ rows) → NoneApplies rows
-none-rest [] rows a = a
-none-rest ((n when b) ∷ front) rows a = none-rest front rows (a .1)
-
 -- ---- one table for another
 
 -- the same numbers, and tests that agree wherever no earlier row applies
@@ -128,6 +124,14 @@ walk-first ((n when false) ∷ rows) p = walk-first rows (and-yes (ltb 0 n) (num
 
 -- ---- the answer that a table gives
 
+pub suc-not-zero : (n : ℕ) → suc n ≡ 0 → ⊥
+suc-not-zero n e = omega arith
+
+-- a number is 0, which refuses nothing, or not
+pub by-number : {Q : Type 0} (n : ℕ) → (n ≡ 0 → Q) → ((n ≡ 0 → ⊥) → Q) → Q
+by-number zero f g = f refl
+by-number (suc n) f g = g (suc-not-zero n)
+
 module _ {A : Type 0} (rows : List Row) (taken : A) (refused : ℕ → A) where
   pub answered : first rows ≡ 0 → taken ≡ answer rows taken refused
   answered e = sym (ap (λ (n : ℕ). answerTo n taken refused) e)
@@ -136,17 +140,22 @@ module _ {A : Type 0} (rows : List Row) (taken : A) (refused : ℕ → A) where
   refused-by zero e h = absurd (h refl)
   refused-by (suc n) e h = ap (λ (k : ℕ). answerTo k taken refused) e
 
+  -- an answer that tells 0 says that no row applied
+  pub none-told : (number : A → ℕ) → ((n : ℕ) → number (refused n) ≡ n) → number (answer rows taken refused) ≡ 0 → first rows ≡ 0
+  none-told number h = go (first rows)
+    where
+      go : (n : ℕ) → number (answerTo n taken refused) ≡ 0 → n ≡ 0
+      go zero e = refl
+      go (suc n) e = sym (h (suc n)) ∙ e
+
   -- what holds of the one where nothing is refused, and of the other with its number, holds of the answer
   pub by-answer : (Q : A → Type 0) → (first rows ≡ 0 → Q taken) → ((n : ℕ) → first rows ≡ n → (n ≡ 0 → ⊥) → Q (refused n)) →
       Q (answer rows taken refused)
   by-answer Q f g = go (first rows) refl
     where
-      clash-suc : (n : ℕ) → suc n ≡ 0 → ⊥
-      clash-suc n e = omega arith
-
       go : (n : ℕ) → first rows ≡ n → Q (answerTo n taken refused)
       go zero e = f e
-      go (suc n) e = g (suc n) e (clash-suc n)
+      go (suc n) e = g (suc n) e (suc-not-zero n)
 
   -- it is what demand 1 asks of an answer
   pub settled : T (numbered rows) → Settled rows (answer rows taken refused) taken refused

@@ -334,10 +334,10 @@ pub fn refused_writings(dice: &mut Dice) -> Vec<Writing> {
     })
 }
 
-/// Slips that are refused with 3, 6, 18, 19 or 20.
+/// Slips that are refused with 3, 6, 18 or 19.
 pub fn refused_slips(dice: &mut Dice) -> Vec<Slip> {
     dice.many(|dice| {
-        let refusal = dice.of(&[3, 6, 18, 19, 20]);
+        let refusal = dice.of(&[3, 6, 18, 19]);
         let flags = slip_flags(dice, refusal);
         let mut slip = Slip::of(&dice.request(flags));
         match (refusal, flags) {
@@ -349,8 +349,7 @@ pub fn refused_slips(dice: &mut Dice) -> Vec<Slip> {
             }
             (6, _) => slip.bytes[2] = 0xFF,
             (18, _) => slip.length = dice.between(0, slip.length as i64 - 1) as usize,
-            (19, _) => slip.bytes[slip.length - 1] ^= 1,
-            _ => slip.length += dice.between(1, 4) as usize,
+            _ => slip.bytes[slip.length - 1] ^= 1,
         }
         assert_eq!(rival::read_slip(slip.bytes()).0, refusal);
         slip

@@ -9,7 +9,7 @@
 mod slip;
 
 use cementoad_sys::{AUTO_START, CONTINUOUS, ERROR, MONOTONIC, RATE, REFERENCE, Request, SYNTHETIC};
-pub use slip::{read_slip, slip_length, write_slip};
+pub use slip::{read_single_slip, read_slip, slip_length, write_slip};
 
 /// The end of the range of times and values.
 const END: i128 = (1 << 61) - 1;

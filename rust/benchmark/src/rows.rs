@@ -2,9 +2,10 @@
 
 use std::fmt::Debug;
 use std::hint::black_box;
+use std::rc::Rc;
 use std::time::Instant;
 
-use cementoad_sys::{self as ffi, LONGEST_SLIP, RATE, SYNTHETIC};
+use cementoad_sys::{self as ffi, LONGEST_SLIP, RATE, Request, SYNTHETIC};
 
 use crate::inputs::{self, Asking, COUNT, Dice, Distance::*, FULL, Slip, Updating, Writing};
 use crate::{baseline, rival};
@@ -43,7 +44,9 @@ pub fn rows() -> Vec<Row> {
         slip_reading("slip reading: all four fields, 27 bytes", inputs::slips(dice, FULL)),
         slip_reading("slip reading: set, 10 bytes", inputs::slips(dice, SYNTHETIC)),
         slip_reading("slip reading: rate, 4 bytes", inputs::slips(dice, RATE)),
-        slip_reading("slip reading, refused (3, 6, 18, 19, 20)", inputs::refused_slips(dice)),
+        slip_reading("slip reading, refused (3, 6, 18, 19)", inputs::refused_slips(dice)),
+        single_slip_reading("slip reading, single: all four fields, 27 bytes", inputs::slips(dice, FULL)),
+        row_reading("slip reading, 16 in a row: all four fields, 432 bytes a call", inputs::slips(dice, FULL)),
         slip_writing("slip writing: all four fields, 27 bytes", inputs::writings(dice, FULL)),
         slip_writing("slip writing: set, 10 bytes", inputs::writings(dice, SYNTHETIC)),
         slip_writing("slip writing: rate, 4 bytes", inputs::writings(dice, RATE)),
@@ -157,8 +160,12 @@ fn update(name: &str, inputs: Vec<Updating>) -> Row {
     )
 }
 
+/// What was received, as the rival answers it.
+fn answer(received: ffi::Received) -> (u8, Request, usize) {
+    (received.refusal, received.request, received.length)
+}
+
 fn slip_reading(name: &str, inputs: Vec<Slip>) -> Row {
-    let answer = |received: ffi::Received| (received.refusal, received.request);
     let row = row(
         name,
         inputs.iter().map(|&slip| (slip, slip)),
@@ -171,6 +178,55 @@ fn slip_reading(name: &str, inputs: Vec<Slip>) -> Row {
         assert_eq!(answer(by_bits(slip)), rival::read_slip(slip.bytes()), "{name}");
     }
     Row { by_bits: Some(Box::new(move |passes| time(&inputs, passes, by_bits))), ..row }
+}
+
+fn single_slip_reading(name: &str, inputs: Vec<Slip>) -> Row {
+    row(
+        name,
+        inputs.into_iter().map(|slip| (slip, slip)),
+        |slip| ffi::read_single_slip(slip.bytes()),
+        |slip| rival::read_single_slip(slip.bytes()),
+        answer,
+    )
+}
+
+/// A call reads 16 of the slips, one after another, to the end of their bytes. A pass goes over each slip 16 times. The
+/// sides are compared slip by slip.
+fn row_reading(name: &str, inputs: Vec<Slip>) -> Row {
+    let joined = |slips: &[Slip]| slips.iter().flat_map(Slip::bytes).copied().collect();
+    let rows: Vec<Rc<[u8]>> = inputs.chunks(16).map(joined).collect();
+    for bytes in &rows {
+        let [mut left, mut right] = [Vec::new(), Vec::new()];
+        slips_in(bytes, ffi::read_slip, |received| {
+            left.push(answer(*received));
+            received.length
+        });
+        slips_in(bytes, rival::read_slip, |received| {
+            right.push(*received);
+            received.2
+        });
+        assert_eq!(left, right, "{name}");
+    }
+    row(
+        name,
+        rows.iter().cycle().take(COUNT).map(|bytes| (bytes.clone(), bytes.clone())),
+        |bytes| slips_in(bytes, ffi::read_slip, |received| received.length),
+        |bytes| slips_in(bytes, rival::read_slip, |received| received.2),
+        |count| count,
+    )
+}
+
+/// How many slips there are before the end, or before one that is refused. Each answer is stored in whole.
+fn slips_in<A>(mut rest: &[u8], read: impl Fn(&[u8]) -> A, mut length: impl FnMut(&A) -> usize) -> usize {
+    let mut count = 0;
+    while !rest.is_empty() {
+        match length(black_box(&read(rest))) {
+            0 => break,
+            used => rest = &rest[used..],
+        }
+        count += 1;
+    }
+    count
 }
 
 /// Each side has one buffer, filled with zeros once and not cleared between calls. What the sides write is compared in
@@ -196,12 +252,21 @@ fn slip_writing(name: &str, inputs: Vec<Writing>) -> Row {
 #[cfg(test)]
 mod tests {
     use super::*;
-    use ffi::{REFERENCE, Request, VERSION_2};
+    use ffi::{REFERENCE, VERSION_2};
 
     /// A row is made only where all sides answer alike on all of its inputs.
     #[test]
     fn all_sides_answer_alike() {
-        assert_eq!(rows().len(), 24);
+        assert_eq!(rows().len(), 26);
+    }
+
+    /// No row has bytes behind a single slip.
+    #[test]
+    fn bytes_left_over_are_refused_alike() {
+        for slip in inputs::slips(&mut Dice(1), FULL) {
+            let bytes = [slip.bytes(), &[0]].concat();
+            assert_eq!(answer(ffi::read_single_slip(&bytes)), rival::read_single_slip(&bytes));
+        }
     }
 
     /// What the quickest of some passes took.

@@ -1,9 +1,9 @@
 //! The boundary of the archive that `tools/archive` makes, as `include/cementoad.h` declares it. The crate `cementoad`
 //! puts Rust's own idioms around it.
 //!
-//! Call [`check_archive`] before anything else. Each function takes any numbers and ends; only the pointers of the two
-//! slip functions ask for care, which [`read_slip`] and [`write_slip`] take. Bytes between the fields of a struct may
-//! hold anything.
+//! Call [`check_archive`] before anything else. Each function takes any numbers and ends; only the pointers of the
+//! three slip functions ask for care, which [`read_slip`], [`read_single_slip`] and [`write_slip`] take. Bytes between
+//! the fields of a struct may hold anything.
 #![deny(missing_docs)]
 
 mod abi;
@@ -13,7 +13,7 @@ pub use abi::check_archive;
 /// The version of the boundary that is declared here. It goes up with every change of a struct, a function or a number
 /// that callers were built with, and with every new refusal. Where [`cementoad_abi`] answers another, nothing else of
 /// the archive may be called.
-pub const ABI: u32 = 3;
+pub const ABI: u32 = 4;
 
 /// The end of the range of times and values, 2^61 - 1.
 pub const END: i64 = (1 << 61) - 1;
@@ -191,12 +191,14 @@ pub struct Detailed {
     pub details: Details,
 }
 
-/// A request that was read from a slip, zeros where it is refused.
+/// A request that was read from a slip, and how many bytes the slip used; zeros where it is refused.
 #[repr(C)]
 #[derive(Clone, Copy, Debug, PartialEq, Eq)]
 pub struct Received {
     /// The slip's request.
     pub request: Request,
+    /// How many bytes the slip used, from the first of those that were lent.
+    pub length: usize,
     /// The refusal's number, 0 for none.
     pub refusal: u8,
 }
@@ -231,11 +233,17 @@ unsafe extern "C" {
     /// Whether it is a clock and started.
     pub safe fn cementoad_is_started(clock: Clock) -> bool;
 
-    /// The request of a slip that is all of the bytes, or refusal 3, 6, 18, 19 or 20.
+    /// The request of the slip on the front of the bytes, whatever follows it, or refusal 3, 6, 18 or 19.
     ///
     /// # Safety
-    /// `bytes` points to `length` bytes that can be read, and is not null, also where `length` is 0.
-    pub unsafe fn cementoad_read_slip(bytes: *const u8, length: usize) -> Received;
+    /// `bytes` points to `size` bytes that can be read, and is not null, also where `size` is 0.
+    pub unsafe fn cementoad_read_slip(bytes: *const u8, size: usize) -> Received;
+
+    /// The request of a slip that is all of the bytes, or refusal 3, 6, 18, 19 or, tested last, 20.
+    ///
+    /// # Safety
+    /// `bytes` points to `size` bytes that can be read, and is not null, also where `size` is 0.
+    pub unsafe fn cementoad_read_single_slip(bytes: *const u8, size: usize) -> Received;
 
     /// Writes the request as a slip to the front of the buffer, or answers refusal 3, 5, 6 or 21 and writes nothing.
     ///
@@ -251,8 +259,15 @@ unsafe extern "C" {
 /// As [`cementoad_read_slip`], of lent bytes.
 #[inline]
 pub fn read_slip(bytes: &[u8]) -> Received {
-    // SAFETY: pointer and length are those of one slice, whose pointer is never null.
+    // SAFETY: pointer and size are those of one slice, whose pointer is never null.
     unsafe { cementoad_read_slip(bytes.as_ptr(), bytes.len()) }
+}
+
+/// As [`cementoad_read_single_slip`], of lent bytes.
+#[inline]
+pub fn read_single_slip(bytes: &[u8]) -> Received {
+    // SAFETY: pointer and size are those of one slice, whose pointer is never null.
+    unsafe { cementoad_read_single_slip(bytes.as_ptr(), bytes.len()) }
 }
 
 /// As [`cementoad_write_slip`], to a lent buffer.

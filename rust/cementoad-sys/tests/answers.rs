@@ -10,7 +10,8 @@ unsafe extern "C" {
     fn cementoad_create(answer: *mut u8, word: u8, backstop: i64, now: i64) -> *mut u8;
     fn cementoad_update(answer: *mut u8, clock: Clock, request: Request, now: i64) -> *mut u8;
     fn cementoad_get_details(answer: *mut u8, clock: Clock, now: i64) -> *mut u8;
-    fn cementoad_read_slip(answer: *mut u8, bytes: *const u8, length: usize) -> *mut u8;
+    fn cementoad_read_slip(answer: *mut u8, bytes: *const u8, size: usize) -> *mut u8;
+    fn cementoad_read_single_slip(answer: *mut u8, bytes: *const u8, size: usize) -> *mut u8;
 }
 
 /// Makes the call with an answer of this type amid other bytes, which have to stay. Two fillings see every byte that is
@@ -60,7 +61,9 @@ fn details_stay_inside() {
 
 #[test]
 fn received_requests_stay_inside() {
-    for slip in [[0x08, 0x80, 0x7a, 0x20], [0; 4]] {
-        stays_inside::<Received>(|answer| unsafe { cementoad_read_slip(answer, slip.as_ptr(), slip.len()) });
+    for read in [cementoad_read_slip, cementoad_read_single_slip] {
+        for slip in [[0x08, 0x80, 0x7a, 0x20], [0; 4]] {
+            stays_inside::<Received>(|answer| unsafe { read(answer, slip.as_ptr(), slip.len()) });
+        }
     }
 }

@@ -32,7 +32,7 @@ fn structs() {
     layout!(reading Reading: refusal, value);
     layout!(details Details: started, line, error, generation, latest, word, backstop, now);
     layout!(detailed Detailed: refusal, details);
-    layout!(received Received: request, refusal);
+    layout!(received Received: request, length, refusal);
     layout!(written Written: length, refusal);
 }
 

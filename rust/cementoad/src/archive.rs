@@ -10,7 +10,7 @@ pub use tests::check_archive;
 mod tests {
     use std::cell::Cell;
 
-    use crate::{Clock, Request};
+    use crate::{Clock, Request, Slips};
 
     thread_local! {
         static CHECKED: Cell<bool> = const { Cell::new(false) };
@@ -23,9 +23,10 @@ mod tests {
 
     #[test]
     fn every_way_into_the_archive_is_checked() {
-        let ways: [fn() -> bool; 5] = [
+        let ways: [fn() -> bool; 6] = [
             || Clock::create(0, 0, 0).is_ok(),
             || Request::from_slip(&[0x08, 0x00]).is_ok(),
+            || Slips::new(&[0x08, 0x00]).next().is_some(),
             || Request::new().to_slip().is_ok(),
             || Request::new().write_slip(&mut [0; 2]).is_ok(),
             || Request::new().slip_length() == 2,

@@ -16,7 +16,7 @@
 //! clock.update(&Request::new().synthetic(1500), 100)?;
 //! assert_eq!(clock.read(350), Ok(1750));
 //!
-//! // A request travels as a slip, and trims the clock.
+//! // A request travels as a slip, and trims the clock. `Slips` reads several in a row.
 //! let slip = Request::new().rate(-23).to_slip()?;
 //! assert_eq!(slip, [0x08, 0x80, 0x7a, 0x20]);
 //! clock.update(&Request::from_slip(&slip)?, 1_000_100)?;
@@ -33,6 +33,7 @@ mod archive;
 mod clock;
 mod refusal;
 mod request;
+mod slips;
 
 #[cfg(doctest)]
 #[doc = include_str!("../../../README.md")]
@@ -43,3 +44,4 @@ pub use cementoad_sys::{Details, Line};
 pub use clock::Clock;
 pub use refusal::{Refusal, UnknownRefusal};
 pub use request::Request;
+pub use slips::Slips;

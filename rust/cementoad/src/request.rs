@@ -108,7 +108,8 @@ impl Request {
         self.flags(Request::ERROR).then_some(self.raw.error)
     }
 
-    /// The request of a slip that is all of the bytes; or refusal 3, 6, 18, 19 or 20.
+    /// The request of a slip that is all of the bytes; or refusal 3, 6, 18, 19 or 20. [`Slips`](crate::Slips) reads
+    /// several in a row.
     ///
     /// ```
     /// use cementoad::{Refusal, Request};
@@ -120,7 +121,7 @@ impl Request {
     /// ```
     pub fn from_slip(bytes: &[u8]) -> Result<Request, Refusal> {
         check_archive();
-        let received = ffi::read_slip(bytes);
+        let received = ffi::read_single_slip(bytes);
         check(received.refusal)?;
         Ok(received.request.into())
     }

@@ -1,6 +1,6 @@
 //! Lists written from 01 and 02: the worked cases, each refusal just inside and just outside, the orders of checks that
-//! can be seen, effects that are easily got wrong, and slips. Each call that is refused has its number beside it, and
-//! some that are accepted are told by their whole answer.
+//! can be seen, effects that are easily got wrong, and slips, single ones and rows. Each call that is refused has its
+//! number beside it, and some calls are told by their whole answer.
 
 use cementoad_sys::*;
 
@@ -11,6 +11,12 @@ use crate::numbers::WORDS;
 
 const PLAIN: u8 = 0;
 const STEADY: u8 = MONOTONIC | CONTINUOUS;
+
+/// The slips of case 12: a clock is set to 1500, and trimmed by -23.
+const SET: &[u8] = b"\x0A\0\0\0\0\0\0\0\x2E\xE0";
+const TRIM: &[u8] = b"\x08\x80\x7A\x20";
+/// A slip that flags nothing.
+const BARE: &[u8] = b"\x08\0";
 
 /// A call with its refusal's number, 0 where it is accepted, and with its whole answer where that is told.
 pub struct Step {
@@ -38,8 +44,9 @@ macro_rules! lists {
 pub fn fixed_lists() -> Lists {
     let clocks = [worked_cases(), creations(), readings(), requests_refused(), lines_refused(), orders(), effects()];
     let remainders = [remainders_kept(), remainders_judged(), many_changes()];
-    let slips = [slips_read(), slips_written(), each_bit()];
-    clocks.into_iter().chain(remainders).chain(slips).flatten().collect()
+    let read = [slip, single_slip, row].map(slips_read);
+    let slips = [ends_of_slips(), rows_to_their_end(), rows_that_stop(), slips_written(), each_bit()];
+    clocks.into_iter().chain(remainders).chain(read).chain(slips).flatten().collect()
 }
 
 fn answers(call: Call, answer: Answer) -> Step {
@@ -70,8 +77,27 @@ fn writes(request: Request, bytes: &[u8]) -> Step {
     answers(write(request, bytes.len()), Answer::Written(written, bytes.to_vec()))
 }
 
+/// The reading takes this request off so many bytes.
+fn takes(call: Call, request: Request, length: usize) -> Step {
+    answers(call, Answer::Received(Received { request, length, refusal: NO_REFUSAL }))
+}
+
+/// The row of these parts gives these requests, then this refusal, 0 at its end, and leaves so many bytes.
+fn gives(parts: &[&[u8]], requests: &[Request], refusal: u8, rest: usize) -> Step {
+    let answer = Answer::Row(requests.to_vec(), refusal, rest);
+    Step { refusal, ..answers(row(&parts.concat()), answer) }
+}
+
 fn slip(bytes: &[u8]) -> Call {
     Call::ReadSlip(bytes.to_vec())
+}
+
+fn single_slip(bytes: &[u8]) -> Call {
+    Call::ReadSingleSlip(bytes.to_vec())
+}
+
+fn row(bytes: &[u8]) -> Call {
+    Call::ReadRow(bytes.to_vec())
 }
 
 fn write(request: Request, size: usize) -> Call {
@@ -133,7 +159,7 @@ fn worked_cases() -> Lists {
         "case 9": Create(AUTO_START, 5, 4) => 17, Create(AUTO_START, 5, 5);
         "case 10": Create(PLAIN, 0, 0), Update(set(END), 0), reads(0, END), Read(1) => 12;
         "case 11": Create(MONOTONIC, 10, 0), Update(set(20), 0), reads(0, 20), Update(set(5), 0) => 13;
-        "case 12": writes(set(1500), b"\x0A\0\0\0\0\0\0\0\x2E\xE0"), writes(rate(-23), b"\x08\x80\x7A\x20");
+        "case 12": writes(set(1500), SET), writes(rate(-23), TRIM);
         "four arguments that differ":
             writes(all, b"\x0B\xC0\0\0\0\0\0\0\0\x08\0\0\0\0\0\0\0\x9F\x58\0\0\0\0\0\0\0\x20");
         "case 13": Create(PLAIN, 0, 0), Update(at(5, error(1)), 10) => 7, Update(set(9), 10),
@@ -372,16 +398,45 @@ fn many_changes() -> Lists {
     ]
 }
 
-fn slips_read() -> Lists {
+/// What a slip on the front, a single slip and the first of a row are told alike.
+fn slips_read(read: fn(&[u8]) -> Call) -> Lists {
     lists! {
-        "slip 18": slip(b"") => 18, slip(b"\x08") => 18, slip(b"\x04") => 18, slip(b"\x08\0"),
-            slip(b"\x0A\0\0\0\0\0\0\0\x2E") => 18, slip(b"\x0A\0\0\0\0\0\0\0\x2E\xE0");
-        "slip 6": slip(b"\x08\x80\xFA\0"), slip(b"\x08\x80\xFA\x20") => 6, slip(b"\x08\x80\xFF\xE0") => 6,
-            slip(b"\x08\x80\0\0");
-        "slip 19": slip(b"\x08\x80\x7A\x21") => 19, slip(b"\x08\x80\x7A\x30") => 19, slip(b"\x08\x80\x7A\x20");
-        "slip 20": slip(b"\x08\0\0") => 20, slip(b"\x08\x80\x7A\x20\0") => 20;
-        "slip in order": slip(b"\x0C") => 18, slip(b"\x0A\x01") => 3, slip(b"\x08\xC0\xFF\xE0") => 18,
-            slip(b"\x08\x80\xFF\xE1") => 6, slip(b"\x08\x80\x7A\x21\0") => 19;
+        "slip 18": read(b"\x08") => 18, read(b"\x04") => 18, read(BARE), read(&SET[..9]) => 18, read(SET);
+        "slip 6": read(b"\x08\x80\xFA\0"), read(b"\x08\x80\xFA\x20") => 6, read(b"\x08\x80\xFF\xE0") => 6,
+            read(b"\x08\x80\0\0");
+        "slip 19": read(b"\x08\x80\x7A\x21") => 19, read(b"\x08\x80\x7A\x30") => 19, read(TRIM);
+        "slip in order": read(b"\x0C") => 18, read(b"\x0A\x01") => 3, read(b"\x08\xC0\xFF\xE0") => 18,
+            read(b"\x08\x80\xFF\xE1") => 6, read(b"\x08\x80\xFF\xE1\0") => 6, read(b"\x08\x80\x7A\x21\0") => 19;
+    }
+}
+
+/// No bytes at all, and bytes behind a slip.
+fn ends_of_slips() -> Lists {
+    let (one_more, two_more) = (&[BARE, b"\0"].concat(), &[TRIM, b"\xFF\xFF"].concat());
+    lists! {
+        "slip 18, no bytes": slip(b"") => 18, single_slip(b"") => 18;
+        "slip 20": single_slip(one_more) => 20, single_slip(two_more) => 20, takes(single_slip(TRIM), rate(-23), 4);
+        "slip with bytes behind": takes(slip(one_more), word(VERSION_2), 2), takes(slip(two_more), rate(-23), 4),
+            takes(slip(TRIM), rate(-23), 4);
+    }
+}
+
+fn rows_to_their_end() -> Lists {
+    lists! {
+        "row of no slips": gives(&[], &[], 0, 0);
+        "row of one slip": gives(&[SET], &[set(1500)], 0, 0);
+        "row of two slips": gives(&[SET, TRIM], &[set(1500), rate(-23)], 0, 0);
+        "row of three slips": gives(&[TRIM, BARE, TRIM], &[rate(-23), word(VERSION_2), rate(-23)], 0, 0);
+    }
+}
+
+fn rows_that_stop() -> Lists {
+    let (set, trim) = (set(1500), rate(-23));
+    lists! {
+        "row cut short": gives(&[SET, &TRIM[..3]], &[set], 18, 3), gives(&[SET, TRIM, b"\x08"], &[set, trim], 18, 1);
+        "row with a refused slip": gives(&[SET, b"\x0C\0", TRIM], &[set], 3, 6),
+            gives(&[SET, b"\x0B\xC0", TRIM], &[set], 18, 6), gives(&[TRIM, b"\x08\x80\xFA\x20", TRIM], &[trim], 6, 8),
+            gives(&[TRIM, b"\x08\x80\x7A\x21", TRIM], &[trim], 19, 8), gives(&[b"\x0C\0", TRIM], &[], 3, 6);
     }
 }
 
@@ -416,8 +471,10 @@ fn each_bit() -> Lists {
     let versions = (0..64).map(|version| step(Update(word(version << 58 | ERROR), 10), good(version)));
     let zero_bits = (0..54).map(|bit| step(Update(word(VERSION_2 | ERROR | 1 << bit), 10), 3));
     let updated = [Create(AUTO_START, 0, 0).into()].into_iter().chain(versions).chain(zero_bits);
-    let headers = (0..64).map(|version| step(slip(&[(version << 2) as u8, 0]), good(version)));
-    let header_zero_bits = (0..6).map(|bit| step(slip(&[8, 1 << bit]), 3));
+    let headers = [slip, single_slip].into_iter().flat_map(|read| {
+        let versions = (0..64).map(move |version| step(read(&[(version << 2) as u8, 0]), good(version)));
+        versions.chain((0..6).map(move |bit| step(read(&[8, 1 << bit]), 3)))
+    });
     let lengths = [2, 10, 4, 12, 10, 18, 11, 19, 10, 18, 11, 19, 18, 26, 19, 27].into_iter().zip(0..);
     let measured = lengths.flat_map(|(length, flags)| {
         let words = [VERSION_2 | flags << 54, flags << 54, flags << 54 | (ERROR - 1)];
@@ -426,7 +483,7 @@ fn each_bit() -> Lists {
     vec![
         ("create 3 and 15", created.collect()),
         ("update 3", updated.collect()),
-        ("slip 3", headers.chain(header_zero_bits).collect()),
+        ("slip 3", headers.collect()),
         ("slip lengths", measured.collect()),
     ]
 }

@@ -146,9 +146,15 @@ fn synthetic(rng: &mut Rng, clock: &Clock, now: i64, from: &Line) -> i64 {
 // ---- slips
 
 fn slip_call(rng: &mut Rng) -> Call {
-    if rng.percent(50) {
-        return Call::ReadSlip(slip_bytes(rng));
+    match rng.below(8) {
+        0 | 1 => Call::ReadSlip(joined(rng, &[1, 2])),
+        2 => Call::ReadSingleSlip(slip_bytes(rng)),
+        3 => Call::ReadRow(joined(rng, &[0, 1, 2, 3, 4, 5])),
+        _ => slip_writing(rng),
     }
+}
+
+fn slip_writing(rng: &mut Rng) -> Call {
     let time = |rng: &mut Rng| if rng.percent(90) { rng.inside() } else { rng.edge() };
     let word = if rng.percent(10) { word(rng) } else { VERSION_2 | rng.below(16) << 54 };
     let (synthetic, reference) = (time(rng), time(rng));
@@ -161,14 +167,21 @@ fn slip_call(rng: &mut Rng) -> Call {
     Call::WriteSlip(request, (0..size).map(filling).collect())
 }
 
+/// The bytes of slips one after another, as many as one of the counts.
+fn joined(rng: &mut Rng, counts: &[usize]) -> Vec<u8> {
+    (0..rng.pick(counts)).flat_map(|_| slip_bytes(rng)).collect()
+}
+
 /// A slip's bytes, whole, damaged or anything at all.
 fn slip_bytes(rng: &mut Rng) -> Vec<u8> {
     if rng.percent(5) {
         return (0..rng.below(30)).map(|_| rng.any() as u8).collect();
     }
     let word = VERSION_2 | rng.below(16) << 54;
-    let (synthetic, reference) = (rng.inside(), rng.inside());
-    let request = Request { word, synthetic, reference, rate: rng.sound_rate(), error: rng.error() };
+    let (synthetic, reference, rate) = (rng.inside(), rng.inside(), rng.sound_rate());
+    // Often the widest, one bit from what is refused.
+    let rate = rng.pick(&[rate, rate, rate, MAX_RATE]);
+    let request = Request { word, synthetic, reference, rate, error: rng.error() };
     let mut bytes = vec![0; LONGEST_SLIP];
     let (_, length) = second::write_slip(&wide_request(&request), &mut bytes);
     bytes.truncate(length);

@@ -1,6 +1,7 @@
-//! The library's side: the archive's own functions.
+//! The library's side: the archive's own functions, and Rust's iterator over them for slips in a row.
 
-use cementoad_sys::{self as sys, Clock, Request};
+use cementoad::Slips;
+use cementoad_sys::{self as sys, Clock, NO_REFUSAL, Request};
 
 use crate::call::{Answer, Call};
 
@@ -12,14 +13,25 @@ pub fn answer(call: &Call, clock: Clock) -> Answer {
         Call::Details(now) => Answer::Detailed(sys::cementoad_get_details(clock, now)),
         Call::Update(request, now) => Answer::Updated(sys::cementoad_update(clock, request, now)),
         Call::Started => Answer::Started(sys::cementoad_is_started(clock)),
-        Call::ReadSlip(ref bytes) => read_slip(bytes),
+        Call::ReadSlip(ref bytes) => Answer::Received(sys::read_slip(bytes)),
+        Call::ReadSingleSlip(ref bytes) => Answer::Received(sys::read_single_slip(bytes)),
+        Call::ReadRow(ref bytes) => read_row(bytes),
         Call::WriteSlip(request, ref buffer) => write_slip(request, buffer),
         Call::SlipLength(word) => Answer::Length(sys::cementoad_slip_length(word)),
     }
 }
 
-pub fn read_slip(bytes: &[u8]) -> Answer {
-    Answer::Received(sys::read_slip(bytes))
+/// Reads on until the iterator ends.
+fn read_row(bytes: &[u8]) -> Answer {
+    let (mut requests, mut refusal) = (Vec::new(), NO_REFUSAL);
+    let mut slips = Slips::new(bytes);
+    for slip in slips.by_ref() {
+        match slip {
+            Ok(request) => requests.push(Request::from(&request)),
+            Err(refused) => refusal = refused.number(),
+        }
+    }
+    Answer::Row(requests, refusal, slips.rest().len())
 }
 
 /// How many bytes stand before and behind the lent buffer, which nothing may touch.

@@ -4,7 +4,7 @@ use std::collections::BTreeMap;
 use std::ops::Range;
 
 use cementoad_sys::*;
-use second::{MILLION, new_line, slip_length};
+use second::{MILLION, new_line, read_row, slip_length};
 
 use crate::call::Call;
 use crate::convert::{exact, point, value, wide_clock, wide_request};
@@ -15,18 +15,20 @@ pub const LEAST: u64 = 1000;
 
 /// The kinds of calls, each with its refusals in the order in which they are tested; 18, which a slip is tested for
 /// twice, as the second time. Clocks made up by hand stand last.
-const KINDS: [(&str, &[u8]); 9] = [
+const KINDS: [(&str, &[u8]); 11] = [
     ("create", &[1, 3, 15, 16, 17]),
     ("read", &[255, 1, 2, 12]),
     ("details", &[255, 1, 2]),
     ("update", &[255, 1, 2, 3, 4, 5, 6, 7, 8, 9, 10, 11, 22, 12, 13, 14]),
     ("started", &[]),
-    ("read slip", &[3, 18, 6, 19, 20]),
+    ("read slip", &[3, 18, 6, 19]),
+    ("read single slip", &[3, 18, 6, 19, 20]),
+    ("read row", &[3, 18, 6, 19]),
     ("write slip", &[3, 5, 6, 21]),
     ("slip length", &[]),
     ("made up", &[]),
 ];
-const MADE_UP: usize = 8;
+const MADE_UP: usize = 10;
 
 /// What was met: by kind and refusal; by kind, rule and what the rule compares, one below, equal and one above; and by
 /// kind and what else there is.
@@ -74,8 +76,10 @@ impl Met {
             Call::Update(..) => 3,
             Call::Started => 4,
             Call::ReadSlip(_) => 5,
-            Call::WriteSlip(..) => 6,
-            Call::SlipLength(_) => 7,
+            Call::ReadSingleSlip(_) => 6,
+            Call::ReadRow(_) => 7,
+            Call::WriteSlip(..) => 8,
+            Call::SlipLength(_) => 9,
             Call::Take(_) => MADE_UP,
         };
         self.refusals[self.kind][usize::from(refusal)] += 1;
@@ -95,7 +99,8 @@ impl Met {
                 self.arguments(&request);
                 self.compare(21, "size and length", buffer.len() as i64, slip_length(request.word) as i64);
             }
-            Call::ReadSlip(ref bytes) => self.slip(bytes),
+            Call::ReadSlip(ref bytes) | Call::ReadSingleSlip(ref bytes) => self.slip(bytes),
+            Call::ReadRow(ref bytes) => self.slips(read_row(bytes).1.len()),
             Call::Take(clock) => self.made_up(&clock),
             Call::Started | Call::SlipLength(_) => {}
         }
@@ -244,6 +249,16 @@ impl Met {
             let start = 16 + 61 * (usize::from(word & SYNTHETIC != 0) + usize::from(word & REFERENCE != 0));
             self.compare(6, "rate field and 2000", number(start..start + 11), 2000);
         }
+    }
+
+    /// A row of so many accepted slips.
+    fn slips(&mut self, count: usize) {
+        let taken = self.refusal == NO_REFUSAL;
+        self.row("of no slips", taken && count == 0);
+        self.row("of one slip", taken && count == 1);
+        self.row("of several slips", taken && count > 1);
+        self.row("stopped at its first slip", !taken && count == 0);
+        self.row("stopped behind a slip", !taken && count > 0);
     }
 
     /// The edges of the boundary's test. A part of it is met where nothing else fails.

@@ -46,6 +46,7 @@ impl<'a> Run<'a> {
 
     fn check(&mut self, call: &Call, answer: &Answer) -> Result<(), String> {
         match (call, answer) {
+            (Call::ReadRow(bytes), Answer::Row(requests, refusal, rest)) => check_row(bytes, requests, *refusal, *rest),
             _ if answer.refusal() != NO_REFUSAL => self.refused(call, answer),
             (Call::Take(clock), _) => {
                 (self.clock, self.witness) = (*clock, None);
@@ -57,7 +58,10 @@ impl<'a> Run<'a> {
             }
             (&Call::Read(now), Answer::Read(reading)) => self.read(now, reading.value),
             (&Call::Update(_, now), Answer::Updated(updated)) => self.updated(now, updated.clock),
-            (Call::ReadSlip(bytes), Answer::Received(received)) => check_rewritten(bytes, received.request),
+            (Call::ReadSlip(bytes), Answer::Received(received)) => {
+                check_rewritten(bytes.get(..received.length).unwrap_or_default(), &[received.request])
+            }
+            (Call::ReadSingleSlip(bytes), Answer::Received(received)) => check_rewritten(bytes, &[received.request]),
             (Call::WriteSlip(request, before), Answer::Written(written, after)) => {
                 check_read_back(request, before, after, written.length)
             }
@@ -65,7 +69,8 @@ impl<'a> Run<'a> {
         }
     }
 
-    /// Demand 1: all that a refused call answers is zeros, or what was handed in, and it writes nothing.
+    /// Demand 1: all that a refused call answers is zeros, or what was handed in, and it writes nothing. A row that
+    /// stops is none: it keeps its requests.
     fn refused(&mut self, call: &Call, answer: &Answer) -> Result<(), String> {
         let (clock, refusal) = (self.clock, answer.refusal());
         let alone = match call {
@@ -73,9 +78,11 @@ impl<'a> Run<'a> {
             Call::Read(_) => Answer::Read(Reading { refusal, value: 0 }),
             Call::Details(_) => Answer::Detailed(Detailed { refusal, details: Details::default() }),
             Call::Update(..) => Answer::Updated(Updated { clock, refusal }),
-            Call::ReadSlip(_) => Answer::Received(Received { request: Request::default(), refusal }),
+            Call::ReadSlip(_) | Call::ReadSingleSlip(_) => {
+                Answer::Received(Received { request: Request::default(), length: 0, refusal })
+            }
             Call::WriteSlip(_, buffer) => Answer::Written(Written { length: 0, refusal }, buffer.clone()),
-            Call::Take(_) | Call::Started | Call::SlipLength(_) => Answer::Taken,
+            Call::Take(_) | Call::Started | Call::ReadRow(_) | Call::SlipLength(_) => Answer::Taken,
         };
         if let Call::Create(..) = call {
             (self.clock, self.witness) = (Clock::default(), None);
@@ -105,23 +112,38 @@ impl<'a> Run<'a> {
     }
 }
 
-/// Demand 2: an accepted slip is rewritten byte for byte. Its unflagged arguments are 0.
-fn check_rewritten(bytes: &[u8], request: Request) -> Result<(), String> {
-    let rewritten = library::write_slip(request, &vec![0xAA; bytes.len()]);
-    let (length, refusal) = (bytes.len(), NO_REFUSAL);
-    let alike = rewritten == Answer::Written(Written { length, refusal }, bytes.to_vec());
-    if alike && request == or_else(&request, &Request::default()) {
-        return Ok(());
+/// Demand 2: accepted slips are rewritten byte for byte, one after another, and each has two bytes or more. Their
+/// unflagged arguments are 0.
+fn check_rewritten(mut bytes: &[u8], requests: &[Request]) -> Result<(), String> {
+    for request in requests {
+        let length = cementoad_slip_length(request.word).min(bytes.len());
+        let (slip, behind) = bytes.split_at(length);
+        let rewritten = library::write_slip(*request, &vec![0xAA; length]);
+        let alike = rewritten == Answer::Written(Written { length, refusal: NO_REFUSAL }, slip.to_vec());
+        if length < 2 || !alike || *request != or_else(request, &Request::default()) {
+            return Err(format!("demand 2: the slip is rewritten otherwise: {rewritten:?}"));
+        }
+        bytes = behind;
     }
-    Err(format!("demand 2: the slip is rewritten otherwise: {rewritten:?}"))
+    if bytes.is_empty() { Ok(()) } else { Err(format!("demand 2: bytes are lost: {bytes:?}")) }
 }
 
-/// Demand 2: a written slip reads back as the same request, by its word and its flagged arguments. It has the length
-/// that is told of it, and nothing behind it is touched.
+/// 02, R-5: a row ends where its bytes do, or stops at a slip that is refused, from which on the bytes are left. Of the
+/// slips before it demand 2 holds.
+fn check_row(bytes: &[u8], requests: &[Request], refusal: u8, rest: usize) -> Result<(), String> {
+    let (used, rest) = bytes.split_at(bytes.len().saturating_sub(rest));
+    let ends = rest.is_empty() && refusal == NO_REFUSAL;
+    let stops = !rest.is_empty() && refusal != NO_REFUSAL && read_slip(rest).refusal == refusal;
+    if ends || stops { check_rewritten(used, requests) } else { Err(format!("R-5: {refusal} told, {rest:?} left")) }
+}
+
+/// Demand 2: a written slip reads back as the same request, by its word and its flagged arguments, alone and with other
+/// bytes behind it. It has the length that is told of it, and nothing behind it is touched.
 fn check_read_back(asked: &Request, before: &[u8], after: &[u8], length: usize) -> Result<(), String> {
-    let read = library::read_slip(after.get(..length).unwrap_or(after));
+    let slip = after.get(..length).unwrap_or(after);
+    let read = [read_single_slip(slip), read_slip(&[slip, &[0xAA; 3]].concat())];
     let request = or_else(asked, &Request::default());
-    let alike = read == Answer::Received(Received { request, refusal: NO_REFUSAL });
+    let alike = read == [Received { request, length, refusal: NO_REFUSAL }; 2];
     if alike && length == cementoad_slip_length(asked.word) && after.get(length..) == before.get(length..) {
         return Ok(());
     }

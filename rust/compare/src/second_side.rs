@@ -1,6 +1,6 @@
 //! The second program's side: its clocks in the boundary's widths, behind the boundary's own test.
 
-use cementoad_sys::{Clock, Created, Detailed, NOT_A_CLOCK, Reading, Received, Updated, Written};
+use cementoad_sys::{Clock, Created, Detailed, NO_REFUSAL, NOT_A_CLOCK, Reading, Received, Updated, Written};
 
 use crate::call::{Answer, Call};
 use crate::convert::{narrow, narrow_clock, narrow_details, narrow_request, wide_clock, wide_request};
@@ -30,8 +30,16 @@ pub fn answer(call: &Call, clock: Clock) -> Answer {
         (Call::Update(..), None) => Answer::Updated(Updated { clock, refusal: NOT_A_CLOCK }),
         (Call::Started, held) => Answer::Started(held.is_some_and(|held| held.line.is_some())),
         (Call::ReadSlip(bytes), _) => {
-            let (refusal, request) = second::read_slip(bytes);
-            Answer::Received(Received { request: narrow_request(&request), refusal })
+            let (refusal, request, rest) = second::read_slip(bytes);
+            received(refusal, &request, bytes.len() - rest.len())
+        }
+        (Call::ReadSingleSlip(bytes), _) => {
+            let (refusal, request) = second::read_single_slip(bytes);
+            received(refusal, &request, if refusal == NO_REFUSAL { bytes.len() } else { 0 })
+        }
+        (Call::ReadRow(bytes), _) => {
+            let (refusal, requests, rest) = second::read_row(bytes);
+            Answer::Row(requests.iter().map(narrow_request).collect(), refusal, rest.len())
         }
         (Call::WriteSlip(request, buffer), _) => {
             let mut buffer = buffer.clone();
@@ -40,4 +48,8 @@ pub fn answer(call: &Call, clock: Clock) -> Answer {
         }
         (&Call::SlipLength(word), _) => Answer::Length(second::slip_length(word)),
     }
+}
+
+fn received(refusal: u8, request: &second::Request, length: usize) -> Answer {
+    Answer::Received(Received { request: narrow_request(request), length, refusal })
 }

@@ -1,4 +1,4 @@
-//! The update slip, read and written (01, The update slip).
+//! The update slip, read and written (01, The update slip; of slips in a row 02, R-5).
 
 use crate::clock::{ERROR, MAX_RATE, RATE, REFERENCE, Request, SYNTHETIC, bad_rate, bad_time, bad_word, first};
 
@@ -37,20 +37,21 @@ impl Reader<'_> {
     }
 }
 
-/// Reads a slip: word and arguments, those without a flag being 0. Refused, it gives zeros.
-pub fn read_slip(bytes: &[u8]) -> (u8, Request) {
+/// Reads the slip on the front: word and arguments, those without a flag being 0, and the bytes behind it. Refused, it
+/// gives zeros and all the bytes.
+pub fn read_slip(bytes: &[u8]) -> (u8, Request, &[u8]) {
     let zeros = Request::default();
     if bytes.len() < 2 {
-        return (18, zeros);
+        return (18, zeros, bytes);
     }
     let mut reader = Reader { bytes, place: 0 };
     let word = reader.take(HEADER) << 48;
     if bad_word(word) {
-        return (3, zeros);
+        return (3, zeros, bytes);
     }
     let length = slip_length(word);
     if bytes.len() < length {
-        return (18, zeros);
+        return (18, zeros, bytes);
     }
     let mut request = Request { word, ..zeros };
     for (flag, width) in FIELDS {
@@ -59,12 +60,31 @@ pub fn read_slip(bytes: &[u8]) -> (u8, Request) {
         }
     }
     let padding = length * 8 - reader.place;
-    let refusal = first(&[
-        (6, i128::from(request.rate) + MAX_RATE > 2000),
-        (19, reader.take(padding) != 0),
-        (20, bytes.len() > length),
-    ]);
-    (refusal, if refusal == 0 { request } else { zeros })
+    let refusal = first(&[(6, i128::from(request.rate) + MAX_RATE > 2000), (19, reader.take(padding) != 0)]);
+    if refusal == 0 { (0, request, &bytes[length..]) } else { (refusal, zeros, bytes) }
+}
+
+/// Reads a single slip, behind which nothing may follow. Refused, it gives zeros.
+pub fn read_single_slip(bytes: &[u8]) -> (u8, Request) {
+    match read_slip(bytes) {
+        (0, _, rest) if !rest.is_empty() => (20, Request::default()),
+        (refusal, request, _) => (refusal, request),
+    }
+}
+
+/// Reads slips one after another, up to the end or to one that is refused: its refusal, 0 at the end, what the slips
+/// before it say, and the bytes from it on.
+pub fn read_row(bytes: &[u8]) -> (u8, Vec<Request>, &[u8]) {
+    let (mut requests, mut rest) = (Vec::new(), bytes);
+    while !rest.is_empty() {
+        let (refusal, request, behind) = read_slip(rest);
+        if refusal != 0 {
+            return (refusal, requests, rest);
+        }
+        requests.push(request);
+        rest = behind;
+    }
+    (0, requests, rest)
 }
 
 /// Writes a slip into the buffer's first bytes and gives its length. Refused, it writes nothing and gives 0.

@@ -19,12 +19,21 @@ pub fn slip_length(word: u64) -> usize {
     slip_bits(word).div_ceil(8)
 }
 
-/// The request of the slip that is all of the bytes, or zeros.
-pub fn read_slip(bytes: &[u8]) -> (u8, Request) {
-    answer(request_received(bytes), Request::default())
+/// The request of the slip on the front of the bytes, and how many of them it used, or zeros (02, R-5).
+pub fn read_slip(bytes: &[u8]) -> (u8, Request, usize) {
+    let (refusal, (request, length)) = answer(request_received(bytes), (Request::default(), 0));
+    (refusal, request, length)
 }
 
-fn request_received(bytes: &[u8]) -> Result<Request, u8> {
+/// The request of a slip that is all of the bytes, and how many they are, or zeros.
+pub fn read_single_slip(bytes: &[u8]) -> (u8, Request, usize) {
+    match read_slip(bytes) {
+        (0, _, length) if length < bytes.len() => (20, Request::default(), 0),
+        received => received,
+    }
+}
+
+fn request_received(bytes: &[u8]) -> Result<(Request, usize), u8> {
     let mut bits = BitReader { bytes, place: 0 };
     refuse(18, bytes.len() < 2)?;
     let word = bits.take(HEADER_BITS) << 48;
@@ -41,14 +50,14 @@ fn request_received(bytes: &[u8]) -> Result<Request, u8> {
     let padding = bits.take(8 * length - slip_bits(word));
     refuse(6, rate > 2000)?;
     refuse(19, padding != 0)?;
-    refuse(20, bytes.len() > length)?;
-    Ok(Request {
+    let request = Request {
         word,
         synthetic: synthetic as i64,
         reference: reference as i64,
         rate: if word & RATE != 0 { rate as i32 - 1000 } else { 0 },
         error,
-    })
+    };
+    Ok((request, length))
 }
 
 /// Writes the request as a slip to the front of the buffer: the slip's length, or 0 and an untouched buffer.

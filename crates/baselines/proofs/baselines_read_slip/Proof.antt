@@ -1,7 +1,7 @@
 use Rattle.slip.proofs.Openings.{header-inside, header-taken, opening-inside}
 use borrow.Author.Needs.{needs}
-use Rattle.baselines.proofs.read_front.Statement.{statement}
-use Rattle.baselines.proofs.read_front.Tie as tie
+use Rattle.baselines.proofs.baselines_read_slip.Statement.{statement}
+use Rattle.baselines.proofs.baselines_read_slip.Tie as tie
 
 abbrev start : tie.After-header-bits-in → tie.Start
 start c =
@@ -23,8 +23,8 @@ take-six-requires c κs =
     let taken = opened .before in
     opening-inside (start (taken .before) .args .bytes .now) (opened .opening-of .result) (opened .opening-of .ensures)
 
-pub read-front-spec : {M : Type 1} → statement M
-read-front-spec =
+pub baselines-read-slip-spec : {M : Type 1} → statement M
+baselines-read-slip-spec =
     tie.close
     (tie.spec
     (λ c κs. search needs)

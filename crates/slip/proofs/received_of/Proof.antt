@@ -1,8 +1,8 @@
 use mathlib.Core.Path.{_∙_}
 use Rattle.slip.proofs.Fronts.{opened-refused, opened-small, opened-judged}
 use borrow.Author.Needs.{needs}
-use Rattle.slip.proofs.front_of.Statement.{statement}
-use Rattle.slip.proofs.front_of.Tie as tie
+use Rattle.slip.proofs.received_of.Statement.{statement}
+use Rattle.slip.proofs.received_of.Tie as tie
 
 -- the step back from where the parts of the opening are known
 abbrev start : tie.After-struct-known → tie.Start
@@ -27,7 +27,7 @@ returns-2 : tie.Need-returns-2
 returns-2 c =
     let test = c .before in
     let s = start (test .before) in
-    c .refused-front .ensures ∙ opened-refused (s .args .bytes .now) (s .args .opened) (s .args .values) (s .pre .0) (s .pre .1) (test .if1 .left)
+    c .refused .ensures ∙ opened-refused (s .args .bytes .now) (s .args .opened) (s .args .values) (s .pre .0) (s .pre .1) (test .if1 .left)
 
-pub front-of-spec : {M : Type 1} → statement M
-front-of-spec = tie.close (tie.spec judged-requires (λ c κs. search needs) returns returns-2)
+pub received-of-spec : {M : Type 1} → statement M
+received-of-spec = tie.close (tie.spec judged-requires (λ c κs. search needs) returns returns-2)
