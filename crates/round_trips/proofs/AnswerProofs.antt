@@ -3,11 +3,12 @@ use mathlib.Core.Path.{_≡_, refl, sym, ap, _∙_, subst}
 use mathlib.Core.Bool.{Bool, true, false, cond, _&&_}
 use mathlib.Core.List.{List, [], _∷_, _++_}
 use Prim.Native.Nat.{ℕ, zero, suc}
+use native.Mathlib.Nat.{suc-ne-zero}
 use lib.Dec.{ltb, eqb·suc-zero}
 use lib.IntN.{ℤ}
 use lib.ListN.{length}
 use Rattle.tables.specs.Tables.{Row, _when_, first, answerTo, answer, Settled}
-use Rattle.tables.proofs.Tables.{first-passed, first-refused, suc-not-zero, settled}
+use Rattle.tables.proofs.Tables.{first-passed, first-refused, settled}
 use Rattle.clock.specs.Numbers.{bit}
 use Rattle.clock.specs.Update.{wordWrong, valuesOutside, rateTooWide}
 use Rattle.clock.specs.declared.Request.{Request}
@@ -41,7 +42,7 @@ single-told bytes = go (first (frontTable bytes)) refl
     go zero e = long (ltb (slipLength (headed bytes)) (length bytes)) ∙ ap told (sym (first-passed (frontTable bytes) last tt e))
     go (suc n) e =
         ap (λ (b : Bool). cond (b && ltb 0 (length bytes)) (refusedBy 20) (refusedBy (suc n))) (eqb·suc-zero n)
-        ∙ ap told (sym e ∙ sym (first-refused (frontTable bytes) last (λ z. suc-not-zero n (sym e ∙ z))))
+        ∙ ap told (sym e ∙ sym (first-refused (frontTable bytes) last (λ z. suc-ne-zero n (sym e ∙ z))))
 
 pub demand1·read-single-slip : Demand1·readSingleSlip
 unfolding frontTable headerTable fieldsTable

@@ -2,12 +2,12 @@
 use mathlib.Core.Path.{_≡_, refl, sym, ap, ap₂, _∙_, subst}
 use mathlib.Core.List.{List, [], _∷_, _++_, append-assoc}
 use Prim.Native.Nat.{ℕ, zero, suc, _+_, _≤_, _<_}
+use native.Mathlib.Nat.{suc-ne-zero}
 use native.Mathlib.Omega.{arith}
 use lib.ListN.{length, take, drop, length-drop, take-append-drop}
 use lib.Seq.{length-take-le, take-at, drop-at, take-add, drop-drop, take-append-add}
 use denote.Ref.{now}
 use Rattle.tables.specs.Tables.{answerTo}
-use Rattle.tables.proofs.Tables.{suc-not-zero}
 use Rattle.clock.specs.declared.Request.{Request}
 use Rattle.fields.specs.Bits.{Bytes}
 use Rattle.fields.specs.Lent.{from}
@@ -175,7 +175,7 @@ module _ (u : Request) (us : List Request) (buffer : List ℕ) where
 
     by-first : (n : ℕ) → writing u buffer .refusal ≡ n → outcomeOf n .refusal ≡ 0 → WrittenAs (u ∷ us) (outcomeOf n)
     by-first zero e z = first-written (writingRow us rest) e (behind rest z)
-    by-first (suc n) e z = absurd (suc-not-zero n (sym e ∙ z))
+    by-first (suc n) e z = absurd (suc-ne-zero n (sym e ∙ z))
 
 row-written : (us : List Request) (buffer : List ℕ) → writingRow us buffer .refusal ≡ 0 → WrittenAs us (writingRow us buffer)
 unfolding writingRow

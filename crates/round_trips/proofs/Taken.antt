@@ -3,7 +3,7 @@ use mathlib.Core.Path.{_≡_, refl, sym, ap, _∙_, subst}
 use mathlib.Core.Bool.{Bool, true, false, not, cond}
 use mathlib.Core.List.{List}
 use Prim.Native.Nat.{ℕ, _≤_}
-use native.Mathlib.Omega.{arith}
+use native.Mathlib.Nat.{suc-ne-zero}
 use lib.Dec.{T, eqb, ltb, nltb→le}
 use lib.ListN.{length, take, drop}
 use lib.Seq.{take-at}
@@ -29,11 +29,8 @@ record Whole (r : Received) (size : ℕ) : Type 0 where
 whole : (r : Received) (size : ℕ) → cond (leftOver r size) (refusedBy 20) r .refusal ≡ 0 → Whole r size
 whole r size = go (leftOver r size) refl
   where
-    never : _≡_ {A = ℕ} 20 0 → ⊥
-    never e = omega arith
-
     go : (b : Bool) → leftOver r size ≡ b → cond b (refusedBy 20) r .refusal ≡ 0 → Whole r size
-    go true e z = absurd (never z)
+    go true e z = absurd (suc-ne-zero 19 z)
     go false e z = record {
       accepted = z;
       is = ap (λ (b : Bool). cond b (refusedBy 20) r) e;

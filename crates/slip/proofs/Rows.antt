@@ -2,6 +2,7 @@
 use mathlib.Core.Path.{_≡_, refl, sym, ap, _∙_, subst}
 use mathlib.Core.List.{List, [], _∷_}
 use Prim.Native.Nat.{ℕ, zero, suc, _-_, _≤_, _<_}
+use native.Mathlib.Nat.{not-suc-le-zero}
 use native.Mathlib.Omega.{arith}
 use lib.IntN.{ℤ}
 use lib.ListN.{length, drop, length-drop}
@@ -45,9 +46,6 @@ module _ (r : Received) where
   stepped-alike row other h =
       by-number (r .refusal) (λ e. ap (stepped r) (h e)) (λ e. stepped-refused row e ∙ sym (stepped-refused other e))
 
-none-left : (n : ℕ) → suc n ≤ 0 → ⊥
-none-left n h = omega arith
-
 -- bytes that belong to the slip before are passed over
 passed-over : (n : ℕ) (bytes : List ℕ) → rowAfter n bytes ≡ readingRow (drop n bytes)
 unfolding rowAfter readingRow
@@ -57,17 +55,16 @@ passed-over (suc n) (b ∷ bytes) = passed-over n bytes
 
 -- the first byte is at hand already
 drop-more : (n : ℕ) (b : ℕ) (bytes : List ℕ) → 0 < n → drop (n - 1) bytes ≡ drop n (b ∷ bytes)
-drop-more zero b bytes h = absurd (none-left 0 h)
-drop-more (suc n) b bytes h = ap (λ (k : ℕ). drop k bytes) (less n)
-  where
-    less : (n : ℕ) → suc n - 1 ≡ n
-    less n = omega arith
+drop-more zero b bytes h = absurd (not-suc-le-zero h)
+drop-more (suc n) b bytes h =
+    let e : suc n - 1 ≡ n = omega arith in
+    ap (λ (k : ℕ). drop k bytes) e
 
 pub row-step
     : (bytes : List ℕ) → 0 < length bytes
     → readingRow bytes ≡ stepped (readingFront bytes) (readingRow (drop (readingFront bytes .length) bytes))
 unfolding rowAfter readingRow
-row-step [] h = absurd (none-left 0 h)
+row-step [] h = absurd (not-suc-le-zero h)
 row-step (b ∷ bytes) h =
     let r = readingFront (b ∷ bytes) in
     stepped-alike r (rowAfter (r .length - 1) bytes) (readingRow (drop (r .length) (b ∷ bytes)))
@@ -97,7 +94,7 @@ module _ (Q : List ℕ → RowRead → Type 0) (none : Q [] (stoppedBy 0))
   within : (n : ℕ) (bytes : List ℕ) → length bytes ≤ n → Q bytes (readingRow bytes)
   unfolding rowAfter readingRow
   within zero [] h = none
-  within zero (b ∷ bytes) h = absurd (none-left (length bytes) h)
+  within zero (b ∷ bytes) h = absurd (not-suc-le-zero h)
   within (suc n) [] h = none
   within (suc n) (b ∷ bytes) h =
       let l : List ℕ = b ∷ bytes in

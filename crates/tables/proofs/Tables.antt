@@ -4,6 +4,7 @@ use mathlib.Core.Bool.{Bool, true, false, not, cond, _&&_}
 use mathlib.Core.List.{List, [], _∷_, _++_}
 use mathlib.Core.Logic.{_⊎_, inl, inr, ⊎-elim}
 use Prim.Native.Nat.{ℕ, zero, suc, _<_}
+use native.Mathlib.Nat.{suc-ne-zero}
 use native.Mathlib.Omega.{arith}
 use lib.Dec.{T, ltb, eqb, ltb→lt}
 use borrow.Author.Tests.{ne-eqb}
@@ -124,13 +125,10 @@ walk-first ((n when false) ∷ rows) p = walk-first rows (and-yes (ltb 0 n) (num
 
 -- ---- the answer that a table gives
 
-pub suc-not-zero : (n : ℕ) → suc n ≡ 0 → ⊥
-suc-not-zero n e = omega arith
-
 -- a number is 0, which refuses nothing, or not
 pub by-number : {Q : Type 0} (n : ℕ) → (n ≡ 0 → Q) → ((n ≡ 0 → ⊥) → Q) → Q
 by-number zero f g = f refl
-by-number (suc n) f g = g (suc-not-zero n)
+by-number (suc n) f g = g (suc-ne-zero n)
 
 module _ {A : Type 0} (rows : List Row) (taken : A) (refused : ℕ → A) where
   pub answered : first rows ≡ 0 → taken ≡ answer rows taken refused
@@ -155,7 +153,7 @@ module _ {A : Type 0} (rows : List Row) (taken : A) (refused : ℕ → A) where
     where
       go : (n : ℕ) → first rows ≡ n → Q (answerTo n taken refused)
       go zero e = f e
-      go (suc n) e = g (suc n) e (suc-not-zero n)
+      go (suc n) e = g (suc n) e (suc-ne-zero n)
 
   -- it is what demand 1 asks of an answer
   pub settled : T (numbered rows) → Settled rows (answer rows taken refused) taken refused
