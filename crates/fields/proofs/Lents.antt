@@ -1,19 +1,18 @@
 -- Parts of lent bytes.
-use mathlib.Core.Path.{_≡_, sym, ap, _∙_}
+use mathlib.Core.Path.{_≡_, ap}
 use mathlib.Core.List.{List}
 use Prim.Native.Nat.{ℕ, _+_, _-_}
 use native.Mathlib.Nat.{zero-add}
-use lib.ListN.{length, take, drop, length-drop}
-use lib.Seq.{take-length}
+use lib.ListN.{length, take, drop}
 use denote.Ref.{ptr, now}
+use borrow.Rule.Slice.PartAt.{part-to-end}
 use Rattle.fields.specs.Lent.{Lent, part, from}
 
 -- the slice from number n to the end, as the checker has it
 pub to-the-end : (lent : Lent) (n : ℕ) →
     record { start = (ptr lent .0, n + ptr lent .1); bytes = take (length (now lent) - n) (drop n (now lent)) } ≡ from n lent
 to-the-end lent n =
-    ap (λ (l : List ℕ). record { start = (ptr lent .0, n + ptr lent .1); bytes = l })
-    (ap (λ (k : ℕ). take k (drop n (now lent))) (sym (length-drop n (now lent))) ∙ take-length (drop n (now lent)))
+    ap (λ (l : List ℕ). record { start = (ptr lent .0, n + ptr lent .1); bytes = l }) (part-to-end (now lent) n)
 
 -- from the first byte on, it is all that was lent
 pub from-the-front : (lent : Lent) → from 0 lent ≡ part lent

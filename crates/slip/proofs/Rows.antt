@@ -7,8 +7,7 @@ use native.Mathlib.Omega.{arith}
 use lib.IntN.{ℤ}
 use lib.ListN.{length, drop, length-drop}
 use denote.Ref.{now}
-use Rattle.tables.specs.Tables.{answerTo}
-use Rattle.tables.proofs.Tables.{by-number}
+use Rattle.tables.proofs.Tables.{by-number, told-taken, told-refused}
 use Rattle.fields.specs.Lent.{Lent, Part, from}
 use Rattle.slip.specs.Reading.{readingFront}
 use Rattle.slip.specs.Row.{NextSlip, readingNext, RowRead, stoppedBy, ahead, stepped, rowAfter, readingRow}
@@ -32,14 +31,10 @@ next-told bytes r is hw hs hp ha he hn hr =
 
 module _ (r : Received) where
   stepped-taken : (row : RowRead) → r .refusal ≡ 0 → stepped r row ≡ ahead r row
-  stepped-taken row e = ap (λ (n : ℕ). answerTo n (ahead r row) stoppedBy) e
+  stepped-taken row = told-taken (ahead r row) stoppedBy (r .refusal)
 
   stepped-refused : (row : RowRead) → (r .refusal ≡ 0 → ⊥) → stepped r row ≡ stoppedBy (r .refusal)
-  stepped-refused row = go (r .refusal)
-    where
-      go : (n : ℕ) → (n ≡ 0 → ⊥) → answerTo n (ahead r row) stoppedBy ≡ stoppedBy n
-      go zero h = absurd (h refl)
-      go (suc n) h = refl
+  stepped-refused row = told-refused (ahead r row) stoppedBy (r .refusal)
 
   -- the row behind matters only where the slip was taken
   stepped-alike : (row other : RowRead) → (r .refusal ≡ 0 → row ≡ other) → stepped r row ≡ stepped r other

@@ -130,13 +130,20 @@ pub by-number : {Q : Type 0} (n : ℕ) → (n ≡ 0 → Q) → ((n ≡ 0 → ⊥
 by-number zero f g = f refl
 by-number (suc n) f g = g (suc-ne-zero n)
 
+module _ {A : Type 0} (taken : A) (refused : ℕ → A) where
+  pub told-taken : (n : ℕ) → n ≡ 0 → answerTo n taken refused ≡ taken
+  told-taken n e = ap (λ (k : ℕ). answerTo k taken refused) e
+
+  pub told-refused : (n : ℕ) → (n ≡ 0 → ⊥) → answerTo n taken refused ≡ refused n
+  told-refused zero h = absurd (h refl)
+  told-refused (suc n) h = refl
+
 module _ {A : Type 0} (rows : List Row) (taken : A) (refused : ℕ → A) where
   pub answered : first rows ≡ 0 → taken ≡ answer rows taken refused
-  answered e = sym (ap (λ (n : ℕ). answerTo n taken refused) e)
+  answered e = sym (told-taken taken refused (first rows) e)
 
   pub refused-by : (n : ℕ) → n ≡ first rows → (n ≡ 0 → ⊥) → refused n ≡ answer rows taken refused
-  refused-by zero e h = absurd (h refl)
-  refused-by (suc n) e h = ap (λ (k : ℕ). answerTo k taken refused) e
+  refused-by n e h = sym (told-refused taken refused n h) ∙ ap (λ (k : ℕ). answerTo k taken refused) e
 
   -- an answer that tells 0 says that no row applied
   pub none-told : (number : A → ℕ) → ((n : ℕ) → number (refused n) ≡ n) → number (answer rows taken refused) ≡ 0 → first rows ≡ 0
