@@ -26,7 +26,7 @@ extern "C" {
 
 /* The version of the boundary that this header declares. It goes up with every change of a struct, a function or a
  * number that callers were built with, and with every new refusal. */
-#define CEMENTOAD_ABI 4
+#define CEMENTOAD_ABI 5
 
 /* The archive's version. Where it differs from CEMENTOAD_ABI, this header is too old or too new for the archive, and
  * nothing else of it may be called. */
@@ -35,8 +35,10 @@ uint32_t cementoad_abi(void);
 
 /* ---- numbers */
 
-/* The end of the range of times and values, 2^61 - 1. */
-#define CEMENTOAD_END INT64_C(2305843009213693951)
+/* The end of the range of times and values, 2^63 - 1. */
+#define CEMENTOAD_END INT64_C(9223372036854775807)
+/* The end for synthetic and reference of a version 2 request and slip, 2^61 - 1. */
+#define CEMENTOAD_VERSION_2_END INT64_C(2305843009213693951)
 /* The widest rate adjustment, in parts per million. */
 #define CEMENTOAD_MAX_RATE INT32_C(1000)
 /* The widest step of a running clock's rate, either way, in parts per million. A start may have any permitted rate. */
@@ -44,7 +46,7 @@ uint32_t cementoad_abi(void);
 /* The error bound that means unknown. */
 #define CEMENTOAD_UNKNOWN_ERROR UINT64_MAX
 /* The bytes of the longest slip. */
-#define CEMENTOAD_LONGEST_SLIP 27
+#define CEMENTOAD_LONGEST_SLIP 28
 
 /* The bits of a creation word: readings never fall while the times don't; no update moves the clock at that now while it
  * runs, not by a millionth of a nanosecond; the clock starts at creation. */
@@ -52,8 +54,10 @@ uint32_t cementoad_abi(void);
 #define CEMENTOAD_CONTINUOUS UINT8_C(64)
 #define CEMENTOAD_AUTO_START UINT8_C(32)
 
-/* The parts of an update word: its version, and a flag for each argument. */
+/* The parts of an update word: one of its two versions, and a flag for each argument. Version 3 is for a synthetic or a
+ * reference past CEMENTOAD_VERSION_2_END. */
 #define CEMENTOAD_VERSION_2 (UINT64_C(2) << 58)
+#define CEMENTOAD_VERSION_3 (UINT64_C(3) << 58)
 #define CEMENTOAD_SYNTHETIC (UINT64_C(1) << 57)
 #define CEMENTOAD_REFERENCE (UINT64_C(1) << 56)
 #define CEMENTOAD_RATE (UINT64_C(1) << 55)
@@ -108,6 +112,8 @@ enum cementoad_refusal {
     CEMENTOAD_BUFFER_SHORT = 21,
     /* A clock that runs is handed a rate more than 200 from its own. */
     CEMENTOAD_RATE_STEP = 22,
+    /* A slip has version 3, though version 2 would hold it. */
+    CEMENTOAD_VERSION_NEEDLESS = 31,
     /* Not of the paper, and checked before all others: what is handed in for a clock fails the test that is told at
      * struct cementoad_clock. */
     CEMENTOAD_NOT_A_CLOCK = 255
@@ -162,7 +168,8 @@ struct cementoad_clock {
     uint8_t started;
 };
 
-/* An update's word and arguments. The word's flags say which arguments count. */
+/* An update's word and arguments. The word's flags say which arguments count, its version where synthetic and reference
+ * end: at CEMENTOAD_VERSION_2_END or at CEMENTOAD_END. */
 struct cementoad_request {
     /* The version and the flags. */
     uint64_t word;
@@ -259,26 +266,29 @@ bool cementoad_is_started(struct cementoad_clock clock);
 /* ---- slips. A pointer leads to as many bytes as the next argument says, and is never NULL, not even for 0 bytes.
  * Nobody else writes there during the call. */
 
-/* The request of the slip on the front of the bytes, whatever follows it, or refusal 3, 6, 18 or 19. It never answers
- * 20: where nothing may follow the slip, call cementoad_read_single_slip. The answer's length says how many bytes the
- * slip used; the rest begins at bytes + length and has size - length bytes. To read slips in a row, go on with the rest
- * until it has no bytes, and stop where a slip is refused: its length is 0, and a loop that goes on never ends. */
+/* The request of the slip on the front of the bytes, whatever follows it, or refusal 3, 6, 18, 19 or 31. The word has
+ * the slip's version, which need not be the one that the request had before it was written. It never answers 20: where
+ * nothing may follow the slip, call cementoad_read_single_slip. The answer's length says how many bytes the slip used;
+ * the rest begins at bytes + length and has size - length bytes. To read slips in a row, go on with the rest until it
+ * has no bytes, and stop where a slip is refused: its length is 0, and a loop that goes on never ends. */
 CEMENTOAD_ANSWERS
 struct cementoad_received cementoad_read_slip(const uint8_t *bytes, size_t size);
 
-/* The request of a slip that is all of the bytes, or refusal 3, 6, 18, 19 or, tested last, 20. */
+/* The request of a slip that is all of the bytes, or refusal 3, 6, 18, 19, 31 or, tested last, 20. */
 CEMENTOAD_ANSWERS
 struct cementoad_received cementoad_read_single_slip(const uint8_t *bytes, size_t size);
 
-/* Writes the request as a slip to the front of the buffer, or answers refusal 3, 5, 6 or 21. No other byte is touched,
- * and none where it is refused. The old bytes have no effect, but lent bytes count as filled: fill a new buffer before
- * lending it. */
+/* Writes the request as a slip to the front of the buffer, or answers refusal 3, 5, 6 or 21. The slip has version 2
+ * where no flagged synthetic or reference lies past CEMENTOAD_VERSION_2_END, else version 3, whichever of them the word
+ * has. No other byte is touched, and none where it is refused. The old bytes have no effect, but lent bytes count as
+ * filled: fill a new buffer before lending it. */
 CEMENTOAD_ANSWERS
 struct cementoad_written cementoad_write_slip(struct cementoad_request request, uint8_t *buffer, size_t size);
 
-/* How many bytes a slip of this word has, by its flags alone. */
+/* How many bytes the request's slip has: what writing it answers, given room. 0 where writing it is refused with 3, 5
+ * or 6, whatever the room. */
 CEMENTOAD_ANSWERS
-size_t cementoad_slip_length(uint64_t word);
+size_t cementoad_slip_length(struct cementoad_request request);
 
 #ifdef __cplusplus
 }

@@ -1,5 +1,5 @@
-/* A clock is created, set, trimmed and read, with its requests passed on as slips; slips are read in a row; then two
- * refusals are met. */
+/* A clock is created, set, trimmed and read, with its requests passed on as slips; slips are read in a row; a value
+ * past the end of version 2 is set; then two refusals are met. */
 #include <inttypes.h>
 #include <stdio.h>
 #include <stdlib.h>
@@ -57,7 +57,7 @@ static struct cementoad_request by_slip(struct cementoad_request request)
 {
     uint8_t slip[CEMENTOAD_LONGEST_SLIP] = {0};
     size_t length = write_slip(request, slip, sizeof slip);
-    printf("slip of %zu bytes:", cementoad_slip_length(request.word));
+    printf("slip of %zu bytes:", cementoad_slip_length(request));
     for (size_t i = 0; i < length; i++)
         printf(" %02X", slip[i]);
     printf("\n");
@@ -116,6 +116,12 @@ int main(void)
     size += write_slip(trim, row + size, sizeof row - size);
     size += write_slip(set, row + size, sizeof row - size);
     print_row(row, size - 7);
+
+    printf("a value past the end of version 2 is set at 2000100\n");
+    set.word = CEMENTOAD_VERSION_3 | CEMENTOAD_SYNTHETIC;
+    set.synthetic = CEMENTOAD_VERSION_2_END + 1;
+    clock = update(clock, by_slip(set), 2000100);
+    print_reading(clock, 2000100);
 
     /* A refused update hands the clock back unaltered. */
     trim.rate = 1001;

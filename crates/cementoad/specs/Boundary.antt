@@ -10,7 +10,7 @@ use Rattle.cementoad.specs.declared.Created.{Created}
 
 -- the version of the boundary that include/cementoad.h declares
 abbrev pub abi : ℕ
-abi = 4
+abi = 5
 
 -- the clock, or zeros, which are none
 abbrev pub orZeros : Option Clock → Clock

@@ -2,9 +2,8 @@
 // include/cementoad.h declares them. Anything may be handed in: each operation tests for itself whether it is handed a
 // clock.
 ghost use mathlib.Core.Path.{_≡_};
-ghost use Rattle.slip.specs.Layout.{bare, slipLength};
 ghost use Rattle.slip.specs.Reading.{readingFront, readingSingle};
-ghost use Rattle.slip.specs.Writing.{writing, outcome};
+ghost use Rattle.slip.specs.Writing.{writtenLength, writing, outcome};
 ghost use Rattle.clock.specs.Reading.{reading};
 ghost use Rattle.clock.specs.Update.{updating};
 ghost use Rattle.clock.specs.Details.{isStarted, detailing};
@@ -19,7 +18,7 @@ use slip::Written;
 
 // The version of the boundary: one more with each change of a struct, a function or a number that callers were built
 // with, and with each new refusal.
-pub const ABI: u32 = 4;
+pub const ABI: u32 = 5;
 
 // A new clock. A refused creation gives zeros, which are no clock.
 #[repr(C)]
@@ -104,8 +103,8 @@ pub extern "C" fn cementoad_write_slip(request: Request, buffer: &mut [u8]) -> W
 }
 
 #[no_mangle]
-pub extern "C" fn cementoad_slip_length(word: u64) -> usize
-    ensures { λ r. ⌜ r ≡ slipLength (bare word) ⌝ }
+pub extern "C" fn cementoad_slip_length(request: Request) -> usize
+    ensures { λ r. ⌜ r ≡ writtenLength request ⌝ }
 {
-    slip::slip_length(word)
+    slip::slip_length(request)
 }

@@ -10,7 +10,7 @@ use Rattle.tables.specs.Tables.{Row, _when_, answer}
 use Rattle.line.specs.Numbers.{outside}
 use Rattle.line.specs.Line.{line, valueAt, turned}
 use Rattle.line.specs.declared.Line.{Line}
-use Rattle.clock.specs.Numbers.{END, timeOutside, rateOutside, stepOutside, bit}
+use Rattle.clock.specs.Numbers.{END, END2, timeOutside, rateOutside, stepOutside, bit}
 use Rattle.clock.specs.Clock.{monotonic, continuous, byteOf, isRunning, oldLine, timeTable}
 use Rattle.clock.specs.Taken.{guarded}
 use Rattle.clock.specs.declared.Clock.{Clock}
@@ -20,9 +20,19 @@ use Rattle.clock.specs.declared.Updated.{Updated}
 
 -- ---- the update word, from the top: 6 bits of version, four flags, and 54 bits that are to be zero
 
--- the one version there is
+-- what the version's last bit counts in the word
+abbrev pub versionUnit : ℕ
+versionUnit = 2 ^ 58
+
+abbrev pub version : ℕ → ℕ
+version word = word / versionUnit
+
+abbrev pub isVersion3 : ℕ → Bool
+isVersion3 word = eqb (version word) 3
+
+-- the two versions there are (02, R-11)
 abbrev pub versionKnown : ℕ → Bool
-versionKnown word = eqb (word / 2 ^ 58) 2
+versionKnown word = eqb (version word) 2 || isVersion3 word
 
 abbrev pub hasSynthetic : Request → Bool
 hasSynthetic u = bit 57 (u .word)
@@ -39,21 +49,28 @@ hasError u = bit 54 (u .word)
 abbrev pub flagged : Request → Flags
 flagged u = record { synthetic = hasSynthetic u; reference = hasReference u; rate = hasRate u; error = hasError u }
 
--- the last time and value that a word's fields may carry: one end for every word of version 2
+-- the last time and value that a word's arguments may have: version 2 keeps the old end (02, R-11)
 abbrev pub endOf : ℕ → ℤ
-endOf word = END
+endOf word = cond (isVersion3 word) END END2
 
 -- ---- rules 3, 5 and 6, which speak of the request alone
 
--- another version, or one of the 54 bits that are to be zero
-unfoldable pub wordWrong : Request → Bool
-wordWrong u = not (versionKnown (u .word)) || not (eqb (u .word % 2 ^ 54) 0)
+-- a version that isn't known, or one of the 54 bits that are to be zero
+unfoldable pub wrongUnless : Bool → ℕ → Bool
+wrongUnless known word = not known || not (eqb (word % 2 ^ 54) 0)
 
--- a synthetic or reference argument that counts lies outside the range
-unfoldable pub valuesOutside : Request → Bool
-valuesOutside u =
-    (hasSynthetic u && outside (pos 0) (endOf (u .word)) (u .synthetic))
-    || (hasReference u && outside (pos 0) (endOf (u .word)) (u .reference))
+abbrev pub wordWrong : Request → Bool
+wordWrong u = wrongUnless (versionKnown (u .word)) (u .word)
+
+-- a synthetic or reference argument that counts lies outside 0..end
+unfoldable pub valuesBeyond : ℤ → Request → Bool
+valuesBeyond end u =
+    (hasSynthetic u && outside (pos 0) end (u .synthetic))
+    || (hasReference u && outside (pos 0) end (u .reference))
+
+-- outside the range of its word
+abbrev pub valuesOutside : Request → Bool
+valuesOutside u = valuesBeyond (endOf (u .word)) u
 
 -- a rate that counts is wider than permitted
 unfoldable pub rateTooWide : Request → Bool
@@ -143,10 +160,22 @@ updating c u now =
 
 -- ---- requests that ask for the same
 
--- the same word, and the same in every argument that counts; `T b` says that b holds
-pub record SameRequest (u v : Request) : Type 0 where
-  pub word : u .word ≡ v .word
+-- the same in every argument that the first one flags; `T b` says that b holds
+pub record SameArguments (u v : Request) : Type 0 where
   pub synthetic : T (hasSynthetic u) → u .synthetic ≡ v .synthetic
   pub reference : T (hasReference u) → u .reference ≡ v .reference
   pub rate : T (hasRate u) → u .rate ≡ v .rate
   pub error : T (hasError u) → u .error ≡ v .error
+
+-- the very same word, and the same in every argument that counts: so arguments not flagged are ignored
+pub record SameToTheWord (u v : Request) : Type 0 where
+  pub word : u .word ≡ v .word
+  pub arguments : SameArguments u v
+
+-- the same request (02, R-11): both versions are known, which may differ; the words are the same below the version, in
+-- the flags above all; and so is every argument that counts
+pub record SameRequest (u v : Request) : Type 0 where
+  pub known : T (versionKnown (u .word))
+  pub otherKnown : T (versionKnown (v .word))
+  pub flags : u .word % versionUnit ≡ v .word % versionUnit
+  pub arguments : SameArguments u v

@@ -114,8 +114,11 @@ pub struct Detailed {
 }
 
 impl Clock {
-    // The end of the range of times and values, 2^61 - 1.
-    pub const END: i64 = 2_305_843_009_213_693_951;
+    // The end of the range of times and values, 2^63 - 1.
+    pub const END: i64 = 9_223_372_036_854_775_807;
+
+    // The end of the times and values that a word of version 2 may have, 2^61 - 1.
+    pub const VERSION_2_END: i64 = 2_305_843_009_213_693_951;
 
     // The widest rate adjustment, in parts per million.
     pub const MAX_RATE: i32 = 1000;

@@ -9,7 +9,7 @@ use lib.Dec.{T}
 use Rattle.line.specs.Line.{exactAt, valueAt}
 use Rattle.line.specs.declared.Line.{Line}
 use Rattle.clock.specs.Clock.{isRunning, monotonic, continuous}
-use Rattle.clock.specs.Update.{updateTable, updating, SameRequest}
+use Rattle.clock.specs.Update.{valuesOutside, updateTable, updating, SameToTheWord, SameRequest}
 use Rattle.clock.specs.Calls.{askTable, Call, update, ask, accepted, after, afterAll, Given, nothing, _at_, given}
 use Rattle.clock.specs.declared.Clock.{Clock}
 use Rattle.clock.specs.declared.Request.{Request}
@@ -29,7 +29,12 @@ Demand2·update = (word : ℕ) (backstop now : ℤ) (c : Clock) → Gave word ba
 
 -- what isn't flagged does not count
 abbrev pub IgnoresUnflagged : Type 0
-IgnoresUnflagged = (c : Clock) (u v : Request) (now : ℤ) → SameRequest u v → updating c u now ≡ updating c v now
+IgnoresUnflagged = (c : Clock) (u v : Request) (now : ℤ) → SameToTheWord u v → updating c u now ≡ updating c v now
+
+-- nor does the version, where rule 5 judges both alike (02, R-11)
+abbrev pub IgnoresVersion : Type 0
+IgnoresVersion = (c : Clock) (u v : Request) (now : ℤ) → SameRequest u v →
+    valuesOutside u ≡ valuesOutside v → updating c u now ≡ updating c v now
 
 -- ---- the backstop
 

@@ -5,14 +5,14 @@ use Prim.Native.Nat.{ℕ, _-_, _^_, _<_}
 use native.Mathlib.Omega.{arith}
 use lib.Dec.{T, lit<}
 use lib.IntN.{ℤ, pos, negsuc, natAbs, +ℤ-negℤ-cancel, -ℤ-+ℤ-cancel, _-ℤ_}
-use lib.Signed.{ltZ, _≤ℤ_, ltZ-yes, clashℤ}
+use lib.Signed.{_≤ℤ_}
 use lib.Pow.{pow-pos}
-use Rattle.tables.proofs.Tests.{by-cases, neither}
 use Rattle.line.proofs.Linear.{≤-lin, lin-≤}
 use Rattle.line.specs.Numbers.{outside}
-use Rattle.clock.specs.Numbers.{MAX_RATE}
+use Rattle.clock.specs.Numbers.{END, END2, MAX_RATE}
 use Rattle.clock.specs.Clock.{Permitted}
-use Rattle.clock.specs.Update.{endOf}
+use Rattle.clock.specs.Update.{isVersion3, endOf}
+use Rattle.clock.proofs.Ranges.{inside}
 use Rattle.slip.specs.Layout.{timeWidth, flaggedWidth, rateField, rateOf}
 use Rattle.slip.proofs.Rates.{rate-sum}
 
@@ -35,17 +35,14 @@ pub and-fails : (a b : Bool) → T (not b) → T (not (a && b))
 and-fails true b n = n
 and-fails false b n = tt
 
-not-below : (x y : ℤ) → y ≤ℤ x → T (not (ltZ x y))
-not-below x y h = by-cases (ltZ x y) (λ t. absurd (clashℤ (ltZ-yes {a = x} {b = y} t) h)) (λ n. n)
-
-pub within : (low high x : ℤ) → low ≤ℤ x → x ≤ℤ high → T (not (outside low high x))
-unfolding outside
-within low high x l h = neither (ltZ x low) (ltZ high x) (not-below x low l) (not-below high x h)
-
 -- ---- times: a word's end is the largest number that its times' width holds
 
 end-is-widest : (word : ℕ) → endOf word ≡ pos (2 ^ timeWidth word - 1)
-end-is-widest word = refl
+end-is-widest word = go (isVersion3 word)
+  where
+    go : (newer : Bool) → cond newer END END2 ≡ pos (2 ^ cond newer 63 61 - 1)
+    go true = refl
+    go false = refl
 
 pub time-fits : (word : ℕ) (x : ℤ) → pos 0 ≤ℤ x → x ≤ℤ endOf word → natAbs x < 2 ^ timeWidth word
 time-fits word (pos n) l h = omega (arith, pow-pos (timeWidth word), ≤-lin (subst (λ (e : ℤ). pos n ≤ℤ e) (end-is-widest word) h))
@@ -53,7 +50,7 @@ time-fits word (negsuc n) l h = absurd (l .le)
 
 pub time-within : (word n : ℕ) → n < 2 ^ timeWidth word → T (not (outside (pos 0) (endOf word) (pos n)))
 time-within word n h =
-    within (pos 0) (endOf word) (pos n) (lin-≤ (omega arith)) (subst (λ (e : ℤ). pos n ≤ℤ e) (sym (end-is-widest word)) (lin-≤ (omega arith)))
+    inside (pos 0) (endOf word) (pos n) (lin-≤ (omega arith)) (subst (λ (e : ℤ). pos n ≤ℤ e) (sym (end-is-widest word)) (lin-≤ (omega arith)))
 
 -- ---- rates
 

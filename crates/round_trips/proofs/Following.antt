@@ -13,7 +13,7 @@ use Rattle.fields.specs.Record.{fields}
 use Rattle.fields.proofs.Reading.{field-ahead}
 use Rattle.fields.proofs.Records.{fields-ahead}
 use Rattle.slip.specs.Layout.{headerWidth, wordOf, bare, slipLength, layout, headerLength}
-use Rattle.slip.specs.Reading.{headed, valuesIn, headerTable, frontTable, readingFront}
+use Rattle.slip.specs.Reading.{headed, valuesBy, valuesIn, headerTableBy, frontTableBy, frontTable, readingBy, readingFront}
 use Rattle.slip.proofs.Layouts.{total-layout}
 
 -- bytes that have a header and as many bytes as it calls for
@@ -24,7 +24,7 @@ module _ (bytes more : List ℕ) (some : headerLength ≤ length bytes) where
 
   module _ (all : slipLength (headed bytes) ≤ length bytes) where
     values-ahead : valuesIn (bytes ++ more) ≡ valuesIn bytes
-    unfolding valuesIn
+    unfolding valuesBy
     values-ahead =
         ap (λ (u : Request). fields (bytes ++ more) 0 (layout u)) headed-ahead
         ∙ fields-ahead (layout (headed bytes)) bytes more 0 (omega (arith, total-layout (headed bytes)))
@@ -34,12 +34,12 @@ module _ (bytes more : List ℕ) (some : headerLength ≤ length bytes) where
     enough l h = (le-ltb (length l) headerLength (omega arith), le-ltb (length l) (slipLength (headed bytes)) (omega arith))
 
     table-ahead : first (frontTable (bytes ++ more)) ≡ first (frontTable bytes)
-    unfolding frontTable headerTable
+    unfolding frontTableBy headerTableBy
     table-ahead =
         let long = enough (bytes ++ more) (omega (arith, length-append bytes more)) in
         let short = enough bytes (omega arith) in
         rw (headed-ahead, values-ahead, long .0, long .1, short .0, short .1)
 
     pub front-ahead : readingFront (bytes ++ more) ≡ readingFront bytes
-    unfolding readingFront
+    unfolding readingBy
     front-ahead = rw (table-ahead, headed-ahead, values-ahead)

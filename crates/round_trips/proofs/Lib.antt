@@ -7,3 +7,4 @@ pub mod Following
 pub mod RoundTripProofs
 pub mod RowProofs
 pub mod AnswerProofs
+pub mod OldReaderProofs

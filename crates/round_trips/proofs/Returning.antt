@@ -1,6 +1,6 @@
 -- A written slip is read back, whatever follows it.
 use mathlib.Core.Path.{_≡_, refl, sym, ap, ap₂, _∙_, subst}
-use mathlib.Core.Bool.{Bool, true, false, not, cond}
+use mathlib.Core.Bool.{Bool, true, false, not, cond, _&&_}
 use mathlib.Core.List.{List, [], _++_, append-nil}
 use Prim.Native.Nat.{ℕ, _+_, _≤_}
 use native.Mathlib.Omega.{arith}
@@ -14,24 +14,26 @@ use Rattle.tables.proofs.Tables.{nothing-told, answered}
 use mir.Facts.{no-ltb}
 use Rattle.tables.proofs.Tests.{if-true, if-false, is-zero}
 use Rattle.clock.specs.Clock.{Permitted}
-use Rattle.clock.specs.Update.{hasSynthetic, hasReference, hasRate, hasError, SameRequest}
+use Rattle.clock.specs.Numbers.{END2}
+use Rattle.clock.specs.Update.{isVersion3, endOf, hasSynthetic, hasReference, hasRate, hasError, SameArguments, SameRequest}
 use Rattle.clock.specs.declared.Request.{Request}
-use Rattle.clock.proofs.Requests.{rate-permitted}
+use Rattle.clock.proofs.Requests.{synthetic-inside, reference-inside, rate-permitted, flag-alike, same-beyond, same-wide}
 use Rattle.fields.specs.Bits.{row}
 use Rattle.fields.specs.Field.{field}
 use Rattle.fields.specs.Record.{fields}
 use Rattle.fields.proofs.Rows.{row-append}
 use Rattle.fields.proofs.Records.{fields-packed}
-use Rattle.slip.specs.Layout.{headerWidth, headerOf, wordOf, bare, rateField, rateOf, rateFieldEnd, widths, slipLength, layout, headerLength}
-use Rattle.slip.specs.Reading.{headed, valuesIn, rateIn, paddingIn, headerTable, fieldsTable, frontTable, requestOf, taken, received, refusedBy, leftOver, readingFront, readingSingle}
-use Rattle.slip.specs.Writing.{valuesOf, slipOf}
+use Rattle.slip.specs.Layout.{headerWidth, headerOf, wordOf, bare, rateField, rateOf, rateFieldEnd, widthsBy, slipLength, layoutBy, layout, isNeedless, headerLength}
+use Rattle.slip.specs.Reading.{headed, valuesBy, valuesIn, rateIn, paddingIn, headerTableBy, fieldsTable, frontTableBy, frontTable, requestOf, taken, received, refusedBy, strictly, readingBy, readingFront, readingSingle}
+use Rattle.slip.specs.Writing.{inSlip, valuesOf, bytesFor, slipOf}
 use Rattle.slip.specs.declared.Received.{Received}
-use Rattle.round_trips.specs.RoundTrips.{UnflaggedZero, Sized}
+use Rattle.round_trips.specs.RoundTrips.{UnflaggedZero, BackFrom, Sized}
 use Rattle.slip.proofs.Layouts.{length-low, length-alike, layout-alike}
 use Rattle.slip.proofs.Rates.{natural-back}
 use Rattle.round_trips.proofs.Arguments.{rate-back}
 use Rattle.slip.proofs.Writings.{Writable}
-use Rattle.round_trips.proofs.Fitting.{wrong-alike, header-says, synthetic-inside, reference-inside, rate-fits, valuesOf-fit, length-slip, row-slip}
+use Rattle.slip.proofs.Versions.{version-is-known, slip-version, slip-below, slip-writable, slip-needed}
+use Rattle.round_trips.proofs.Fitting.{wrong-alike, header-says, rate-fits, valuesOf-fit, length-bytes, row-bytes}
 
 -- the same request, its arguments 0 where they aren't flagged
 abbrev pub kept : Request → Request
@@ -43,22 +45,50 @@ kept u = record {
   error = cond (hasError u) (u .error) 0;
 }
 
-pub kept-same : (u : Request) → SameRequest u (kept u)
-kept-same u = record {
-  word = refl;
+kept-arguments : (u : Request) → SameArguments u (kept u)
+kept-arguments u = record {
   synthetic = λ t. sym (if-true (hasSynthetic u) (u .synthetic) (pos 0) t);
   reference = λ t. sym (if-true (hasReference u) (u .reference) (pos 0) t);
   rate = λ t. sym (if-true (hasRate u) (u .rate) (pos 0) t);
   error = λ t. sym (if-true (hasError u) (u .error) 0 t);
 }
 
-pub kept-zero : (u : Request) → UnflaggedZero (kept u)
+kept-zero : (u : Request) → UnflaggedZero (kept u)
 kept-zero u = record {
   synthetic = if-false (hasSynthetic u) (u .synthetic) (pos 0);
   reference = if-false (hasReference u) (u .reference) (pos 0);
   rate = if-false (hasRate u) (u .rate) (pos 0);
   error = if-false (hasError u) (u .error) 0;
 }
+
+-- kept as its slip has it, it is still the same request
+pub kept-same : (u : Request) → Writable u → SameRequest u (kept (inSlip u))
+unfolding inSlip
+kept-same u w =
+    let slip = inSlip u in
+    let k = kept-arguments slip in
+    let below = slip-below u in
+    record {
+      known = version-is-known u (w .word);
+      otherKnown = version-is-known slip (slip-writable u w .word);
+      flags = sym below;
+      arguments = record {
+        synthetic = λ t. k .synthetic (subst T (sym (flag-alike 57 0 (slip .word) (u .word) below)) t);
+        reference = λ t. k .reference (subst T (sym (flag-alike 56 1 (slip .word) (u .word) below)) t);
+        rate = λ t. k .rate (subst T (sym (flag-alike 55 2 (slip .word) (u .word) below)) t);
+        error = λ t. k .error (subst T (sym (flag-alike 54 3 (slip .word) (u .word) below)) t);
+      };
+    }
+
+pub kept-writable : (u : Request) → Writable u → Writable (kept u)
+kept-writable u w = record {
+  word = w .word;
+  values = subst (λ (b : Bool). T (not b)) (same-beyond u (kept u) refl (kept-arguments u) (endOf (u .word))) (w .values);
+  rate = subst (λ (b : Bool). T (not b)) (same-wide u (kept u) refl (kept-arguments u)) (w .rate);
+}
+
+pub kept-back : (u : Request) → Writable u → BackFrom u (kept (inSlip u))
+kept-back u w = record { same = kept-same u w; version = slip-version u; zero = kept-zero (inSlip u) }
 
 -- ---- a field as the argument that it was
 
@@ -80,24 +110,24 @@ request-kept : (u : Request) → Writable u → requestOf u (valuesOf u) ≡ kep
 unfolding valuesOf
 request-kept u w =
     rw (
-      time-kept (hasSynthetic u) (u .synthetic) (λ t. synthetic-inside u w t .0),
-      time-kept (hasReference u) (u .reference) (λ t. reference-inside u w t .0),
+      time-kept (hasSynthetic u) (u .synthetic) (λ t. synthetic-inside u (w .values) t .0),
+      time-kept (hasReference u) (u .reference) (λ t. reference-inside u (w .values) t .0),
       rate-kept (hasRate u) (u .rate) (rate-permitted u (w .rate)),
     )
 
 -- ---- on the front of any bytes
 
-module _ (u : Request) (w : Writable u) (s : Sized u) (rest : List ℕ) where
+module _ (u : Request) (w : Writable u) (needed : T (not (isNeedless u))) (s : Sized u) (rest : List ℕ) where
   abbrev bytes : List ℕ
-  bytes = slipOf u ++ rest
+  bytes = bytesFor u ++ rest
 
   values-there : fields bytes 0 (layout u) ≡ valuesOf u
   values-there =
       fields-packed (layout u) (valuesOf u) bytes 0 [] (row rest) (valuesOf-fit u w s)
-      (row-append (slipOf u) rest ∙ ap (λ (r : List Bool). r ++ row rest) (row-slip u)) refl
+      (row-append (bytesFor u) rest ∙ ap (λ (r : List Bool). r ++ row rest) (row-bytes u)) refl
 
   header-there : field bytes 0 headerWidth ≡ headerOf (u .word)
-  unfolding fields layout widths valuesOf
+  unfolding fields layoutBy widthsBy valuesOf
   header-there = ap (λ (vs : List ℕ). getD vs 0 0) values-there
 
   word-there : headed bytes .word ≡ u .word
@@ -105,11 +135,11 @@ module _ (u : Request) (w : Writable u) (s : Sized u) (rest : List ℕ) where
   word-there = ap wordOf header-there ∙ header-says u (w .word)
 
   values-read : valuesIn bytes ≡ valuesOf u
-  unfolding valuesIn
+  unfolding valuesBy
   values-read = ap (fields bytes 0) (layout-alike (headed bytes) u word-there) ∙ values-there
 
   length-there : length bytes ≡ slipLength u + length rest
-  length-there = omega (arith, length-append (slipOf u) rest, length-slip u)
+  length-there = omega (arith, length-append (bytesFor u) rest, length-bytes u)
 
   rate-there : rateIn (valuesIn bytes) ≤ rateFieldEnd
   unfolding valuesOf
@@ -119,32 +149,47 @@ module _ (u : Request) (w : Writable u) (s : Sized u) (rest : List ℕ) where
   unfolding valuesOf
   padding-there = ap (λ (vs : List ℕ). paddingIn vs) values-read
 
-  front-passed : first (frontTable bytes) ≡ 0
-  unfolding frontTable headerTable fieldsTable
-  front-passed =
+  request-there : requestOf (headed bytes) (valuesIn bytes) ≡ kept u
+  request-there = ap₂ (λ (word : ℕ) (vs : List ℕ). requestOf (bare word) vs) word-there values-read ∙ request-kept u w
+
+  needed-there : T (not (isNeedless (requestOf (headed bytes) (valuesIn bytes))))
+  needed-there =
+      subst (λ (v : Request). T (not (isNeedless v))) (sym request-there)
+      (subst (λ (beyond : Bool). T (not (isVersion3 (u .word) && not beyond))) (same-beyond u (kept u) refl (kept-arguments u) END2) needed)
+
+  there-passed : first (frontTable bytes) ≡ 0
+  unfolding frontTableBy headerTableBy fieldsTable
+  there-passed =
       nothing-told (frontTable bytes) (
         no-ltb {a = length bytes} {b = headerLength} (omega (arith, length-there, length-low u)),
         (
           subst (λ (b : Bool). T (not b)) (sym (wrong-alike (headed bytes) u word-there)) (w .word),
           (
             no-ltb {a = length bytes} {b = slipLength (headed bytes)} (omega (arith, length-there, length-alike (headed bytes) u word-there)),
-            (no-ltb {a = rateFieldEnd} {b = rateIn (valuesIn bytes)} rate-there, (is-zero (paddingIn (valuesIn bytes)) padding-there, tt)),
+            (no-ltb {a = rateFieldEnd} {b = rateIn (valuesIn bytes)} rate-there, (is-zero (paddingIn (valuesIn bytes)) padding-there, (needed-there, tt))),
           ),
         ),
       )
 
-  pub front-read : readingFront bytes ≡ taken (kept u) (slipLength u)
-  unfolding readingFront
+  front-read : readingFront bytes ≡ taken (kept u) (slipLength u)
+  unfolding readingBy
   front-read =
-      sym (answered (frontTable bytes) (received bytes) refusedBy front-passed)
-      ∙ ap₂ (λ (word : ℕ) (vs : List ℕ). taken (requestOf (bare word) vs) (slipLength (headed bytes))) word-there values-read
-      ∙ ap₂ taken (request-kept u w) (length-alike (headed bytes) u word-there)
+      sym (answered (frontTable bytes) (received bytes) refusedBy there-passed)
+      ∙ ap₂ taken request-there (length-alike (headed bytes) u word-there)
 
--- a slip alone
-pub slip-read : (u : Request) → Writable u → Sized u → readingSingle (slipOf u) ≡ taken (kept u) (slipLength u)
+-- ---- a slip, with any bytes behind it
+
+pub slip-front
+    : (u : Request) → Writable u → Sized u → (rest : List ℕ) → readingFront (slipOf u ++ rest) ≡ taken (kept (inSlip u)) (slipLength (inSlip u))
+unfolding inSlip
+slip-front u w s rest = front-read (inSlip u) (slip-writable u w) (slip-needed u) s rest
+
+-- and alone
+pub slip-read : (u : Request) → Writable u → Sized u → readingSingle (slipOf u) ≡ taken (kept (inSlip u)) (slipLength (inSlip u))
 unfolding readingSingle
 slip-read u w s =
-    let r : Received = taken (kept u) (slipLength u) in
-    let e : readingFront (slipOf u) ≡ r = ap readingFront (sym (append-nil (slipOf u))) ∙ front-read u w s [] in
-    ap₂ (λ (x : Received) (n : ℕ). cond (leftOver x n) (refusedBy 20) x) e (length-slip u)
-    ∙ ap (λ (b : Bool). cond b (refusedBy 20) r) (le-ltb (slipLength u) (slipLength u) (omega arith))
+    let size = slipLength (inSlip u) in
+    let r : Received = taken (kept (inSlip u)) size in
+    let e : readingFront (slipOf u) ≡ r = ap readingFront (sym (append-nil (slipOf u))) ∙ slip-front u w s [] in
+    ap₂ (λ (x : Received) (n : ℕ). strictly x n) e (length-bytes (inSlip u))
+    ∙ ap (λ (b : Bool). cond b (refusedBy 20) r) (le-ltb size size (omega arith))

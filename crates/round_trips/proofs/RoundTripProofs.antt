@@ -1,49 +1,87 @@
 -- The round trips of slips, proved over the definitions alone.
 use mathlib.Core.Path.{_≡_, refl, sym, ap, _∙_, subst}
 use mathlib.Core.List.{List}
-use Prim.Native.Nat.{ℕ}
+use Prim.Native.Nat.{ℕ, _%_, _^_, _≤_, _<_}
+use native.Mathlib.Nat.{not-suc-le-zero}
 use native.Mathlib.Omega.{arith}
 use lib.Dec.{T}
-use lib.ListN.{length}
-use Rattle.clock.specs.Numbers.{bit}
-use Rattle.clock.specs.Update.{SameRequest}
+use lib.ListN.{length, take}
+use Rattle.tables.specs.Tables.{Row, answer}
+use Rattle.tables.proofs.Tables.{answered, by-answer}
+use Rattle.tables.proofs.Tests.{is-false}
+use Rattle.clock.specs.Update.{valuesOutside, updating, SameRequest}
 use Rattle.clock.specs.declared.Request.{Request}
-use Rattle.slip.specs.Layout.{widths, slipLength}
-use Rattle.slip.specs.Reading.{headed, taken, readingFront, readingSingle}
-use Rattle.slip.specs.Writing.{slipOf, writing}
+use Rattle.clock.proofs.Requests.{flag-alike}
+use Rattle.demands.proofs.Unflagged.{ignores-version}
+use Rattle.slip.specs.Layout.{widthsBy, lengthBy, slipLength}
+use Rattle.slip.specs.Reading.{headed, readingFront, readingSingle}
+use Rattle.slip.specs.Writing.{inSlip, slipOf, askedTable, writtenLength, Outcome, writing}
 use Rattle.slip.specs.declared.Received.{Received}
 use Rattle.slip.proofs.Layouts.{length-low, total-high, length-high}
-use Rattle.slip.proofs.Writings.{Writable}
+use Rattle.slip.proofs.Writings.{Writable, asked-writable, asked-passed, writing-filled}
+use Rattle.slip.proofs.Versions.{slip-writable, slip-same}
 use Rattle.slip.proofs.Fronts.{front-within, front-size}
-use Rattle.round_trips.specs.RoundTrips.{UnflaggedZero, Sized, ReadsAs, ReadsBack, NeverShared, Rewritten, Measured, ReadLength, SingleLength, WrittenLength, Numbered}
-use Rattle.round_trips.proofs.Taken.{single-accepted, single-front, single-all, written-writable, written-slip, written-size}
-use Rattle.round_trips.proofs.Returning.{kept, kept-same, kept-zero, slip-read}
-use Rattle.round_trips.proofs.Rewriting.{copied, copied-all, front-rewritten}
+use Rattle.round_trips.specs.RoundTrips.{BackFrom, Sized, ReadsAs, ReadsBack, NeverShared, AlwaysShared, DoesTheSame, Rewritten, Measured, ReadLength, SingleLength, WrittenLength, TellsLength, Numbered}
+use Rattle.round_trips.proofs.Taken.{single-accepted, single-front, single-all, written-writable, written-room, written-slip, written-size}
+use Rattle.round_trips.proofs.Returning.{kept, kept-same, kept-back, kept-writable, slip-read}
+use Rattle.round_trips.proofs.Rewriting.{copied, copied-all, takes, front-rewritten}
+use Rattle.round_trips.proofs.AnswerProofs.{same-bytes}
 
 measured : (u : Request) (n : ℕ) → n ≡ slipLength u → Measured u n
 measured u n e = record { called = e; low = omega (arith, length-low u); high = omega (arith, length-high u); bits = total-high u }
 
 pub numbered : Numbered
-unfolding widths slipLength
-numbered = record { header = refl; bits = refl; bytes = refl }
+unfolding widthsBy lengthBy
+numbered = record { header = refl; bits = refl; bytes = refl; wideBits = refl; wideBytes = refl }
 
 -- ---- written, then read
 
 reads-as : (u : Request) → Writable u → Sized u → ReadsAs u (slipOf u)
 reads-as u w s =
-    let e : readingSingle (slipOf u) ≡ taken (kept u) (slipLength u) = slip-read u w s in
+    let e = slip-read u w s in
     record {
       accepted = ap (λ (r : Received). r .refusal) e;
-      same = subst (λ (r : Received). SameRequest u (r .request)) (sym e) (kept-same u);
-      zero = subst (λ (r : Received). UnflaggedZero (r .request)) (sym e) (kept-zero u);
+      back = subst (λ (r : Received). BackFrom u (r .request)) (sym e) (kept-back u w);
     }
 
 pub reads-back : ReadsBack
 reads-back u buffer s accepted =
     subst (ReadsAs u) (sym (written-slip u buffer accepted)) (reads-as u (written-writable u buffer accepted) s)
 
+pub does-the-same : DoesTheSame
+does-the-same u buffer s accepted c now =
+    let w = written-writable u buffer accepted in
+    let v = kept (inSlip u) in
+    let r : readingSingle (take (writing u buffer .length) (writing u buffer .buffer)) .request ≡ v =
+    ap (λ (bytes : List ℕ). readingSingle bytes .request) (written-slip u buffer accepted) ∙ ap (λ (r : Received). r .request) (slip-read u w s) in
+    let k = kept-writable (inSlip u) (slip-writable u w) in
+    ap (λ (x : Request). updating c x now) r
+    ∙ sym (ignores-version c u v now (kept-same u w) (is-false (valuesOutside u) (w .values) ∙ sym (is-false (valuesOutside v) (k .values))))
+
+-- ---- lengths of what is written
+
 pub written-length : WrittenLength
-written-length u buffer accepted = measured u (writing u buffer .length) (written-size u buffer accepted)
+written-length u buffer accepted = measured (inSlip u) (writing u buffer .length) (written-size u buffer accepted)
+
+pub tells-length : TellsLength
+unfolding writtenLength
+tells-length u buffer = record {
+  written = λ accepted. written-size u buffer accepted ∙ told accepted;
+  needed = λ accepted. subst (λ (n : ℕ). n ≤ length buffer) (told accepted) (written-room u buffer accepted);
+  enough =
+      by-answer rows size (λ n. 0) (λ (n : ℕ). 0 < n → n ≤ length buffer → writing u buffer .refusal ≡ 0)
+      (λ e some room. ap (λ (o : Outcome). o .refusal) (sym (writing-filled u buffer (takes u (length buffer) (asked-writable u e) room))))
+      (λ n e h some room. absurd (not-suc-le-zero some));
+}
+  where
+    rows : List Row
+    rows = askedTable u
+
+    size : ℕ
+    size = slipLength (inSlip u)
+
+    told : writing u buffer .refusal ≡ 0 → size ≡ answer rows size (λ n. 0)
+    told accepted = answered rows size (λ n. 0) (asked-passed u (written-writable u buffer accepted))
 
 -- ---- read, then written
 
@@ -70,18 +108,25 @@ rewritten bytes buffer hb accepted h =
 -- requests that are the same as one are the same as each other
 joined : (u v w : Request) → SameRequest u w → SameRequest v w → SameRequest u v
 joined u v w p q =
-    let e : u .word ≡ v .word = p .word ∙ sym (q .word) in
+    let e : u .word % 2 ^ 58 ≡ v .word % 2 ^ 58 = p .flags ∙ sym (q .flags) in
     record {
-      word = e;
-      synthetic = λ t. p .synthetic t ∙ sym (q .synthetic (subst (λ (k : ℕ). T (bit 57 k)) e t));
-      reference = λ t. p .reference t ∙ sym (q .reference (subst (λ (k : ℕ). T (bit 56 k)) e t));
-      rate = λ t. p .rate t ∙ sym (q .rate (subst (λ (k : ℕ). T (bit 55 k)) e t));
-      error = λ t. p .error t ∙ sym (q .error (subst (λ (k : ℕ). T (bit 54 k)) e t));
+      known = p .known;
+      otherKnown = q .known;
+      flags = e;
+      arguments = record {
+        synthetic = λ t. p .arguments .synthetic t ∙ sym (q .arguments .synthetic (subst T (flag-alike 57 0 (u .word) (v .word) e) t));
+        reference = λ t. p .arguments .reference t ∙ sym (q .arguments .reference (subst T (flag-alike 56 1 (u .word) (v .word) e) t));
+        rate = λ t. p .arguments .rate t ∙ sym (q .arguments .rate (subst T (flag-alike 55 2 (u .word) (v .word) e) t));
+        error = λ t. p .arguments .error t ∙ sym (q .arguments .error (subst T (flag-alike 54 3 (u .word) (v .word) e) t));
+      };
     }
 
 pub never-shared : NeverShared
 never-shared u v left right su sv au av e =
     let r = reads-as v (written-writable v right av) sv in
     joined u v (readingSingle (slipOf v) .request)
-    (subst (λ (bytes : List ℕ). SameRequest u (readingSingle bytes .request)) e (reads-as u (written-writable u left au) su .same))
-    (r .same)
+    (subst (λ (bytes : List ℕ). SameRequest u (readingSingle bytes .request)) e (reads-as u (written-writable u left au) su .back .same))
+    (r .back .same)
+
+pub always-shared : AlwaysShared
+always-shared u v same = same-bytes (inSlip u) (inSlip v) (slip-same u v (same .flags) (same .arguments))

@@ -14,17 +14,17 @@ use Rattle.fields.specs.Lent.{from}
 use Rattle.fields.proofs.Lents.{from-the-front}
 use Rattle.fields.proofs.Rows.{bytes-drop}
 use Rattle.slip.specs.Layout.{slipLength}
-use Rattle.slip.specs.Reading.{headed, headerTable, fieldsTable, frontTable, taken, readingFront}
-use Rattle.slip.specs.Writing.{slipOf, Outcome, writing}
+use Rattle.slip.specs.Reading.{headed, headerTableBy, fieldsTable, frontTableBy, taken, readingBy, readingFront}
+use Rattle.slip.specs.Writing.{inSlip, slipOf, Outcome, writing}
 use Rattle.slip.specs.Row.{readingNext, RowRead, stoppedBy, ahead, rowAfter, readingRow}
 use Rattle.slip.specs.declared.Received.{Received}
-use Rattle.slip.proofs.Fronts.{front-within, front-zeros, front-size, front-uses}
+use Rattle.slip.proofs.Fronts.{front-within, front-zeros, front-size, front-uses, front-some}
 use Rattle.slip.proofs.Rows.{row-step, row-taken, by-slips}
 use Rattle.slip.proofs.Writings.{Writable}
 use Rattle.round_trips.specs.Rows.{SlipUses, RefusedHandedBack, SlipKept, NoBytes, RowSteps, Stops, RowStops, followedBy, writingRow, RowRewritten, AllSized, SameRequests, RowReadsAs, RowReadsBack}
-use Rattle.round_trips.proofs.Fitting.{length-slip}
+use Rattle.round_trips.proofs.Fitting.{length-bytes}
 use Rattle.round_trips.proofs.Taken.{written-writable, written-slip, written-size}
-use Rattle.round_trips.proofs.Returning.{kept, kept-same, kept-zero, front-read}
+use Rattle.round_trips.proofs.Returning.{kept, kept-back, slip-front}
 use Rattle.round_trips.proofs.Rewriting.{copied, copied-all, front-rewritten}
 use Rattle.round_trips.proofs.Following.{headed-ahead, front-ahead}
 
@@ -53,15 +53,15 @@ slip-kept bytes others accepted =
 -- ---- a row, step by step
 
 pub no-bytes : NoBytes
-unfolding readingFront frontTable headerTable fieldsTable rowAfter readingRow
+unfolding readingBy frontTableBy headerTableBy fieldsTable rowAfter
 no-bytes = record { slip = refl; row = refl }
 
 pub row-steps : RowSteps
 unfolding readingNext
-row-steps bytes some = row-step (now bytes) some
+row-steps bytes some = row-step readingFront front-some front-within (now bytes) some
 
 pub row-stops : RowStops
-row-stops = by-slips Stops none refused further
+row-stops = by-slips readingFront front-some front-within Stops none refused further
   where
     none : Stops [] (stoppedBy 0)
     none = record { ended = λ e. refl; ahead = λ h. absurd (h refl); refused = λ h. absurd (h refl); few = omega arith }
@@ -101,7 +101,7 @@ Again bytes row = (buffer : List ℕ) → Bytes bytes → row .length ≤ length
 
 again : (bytes : List ℕ) → Again bytes (readingRow bytes)
 unfolding writingRow
-again = by-slips Again (λ buffer hb h. refl) (λ bytes some t buffer hb h. refl) further
+again = by-slips readingFront front-some front-within Again (λ buffer hb h. refl) (λ bytes some t buffer hb h. refl) further
   where
     further
         : (bytes : List ℕ) (row : RowRead) → readingFront bytes .refusal ≡ 0 → Again (drop (readingFront bytes .length) bytes) row
@@ -134,19 +134,20 @@ AllWritable [] = Unit
 AllWritable (u ∷ us) = Writable u × AllWritable us
 
 row-reads : (us : List Request) → AllWritable us → AllSized us → RowReadsAs us (slipsOf us)
-unfolding rowAfter readingRow
+unfolding rowAfter
 row-reads [] w s = record { accepted = refl; same = tt }
 row-reads (u ∷ us) w s =
     let bytes = slipsOf (u ∷ us) in
-    let e : readingFront bytes ≡ taken (kept u) (slipLength u) = front-read u (w .0) (s .0) (slipsOf us) in
-    let r : readingRow bytes ≡ ahead (taken (kept u) (slipLength u)) (readingRow (slipsOf us)) =
-    row-taken bytes (ap (λ (x : Received). x .refusal) e)
+    let slip = inSlip u in
+    let e : readingFront bytes ≡ taken (kept slip) (slipLength slip) = slip-front u (w .0) (s .0) (slipsOf us) in
+    let r : readingRow bytes ≡ ahead (taken (kept slip) (slipLength slip)) (readingRow (slipsOf us)) =
+    row-taken readingFront front-some front-within bytes (ap (λ (x : Received). x .refusal) e)
     ∙ ap (λ (x : Received). ahead x (readingRow (drop (x .length) bytes))) e
-    ∙ ap (λ (l : List ℕ). ahead (taken (kept u) (slipLength u)) (readingRow l)) (drop-at (slipOf u) (slipsOf us) (slipLength u) (length-slip u)) in
+    ∙ ap (λ (l : List ℕ). ahead (taken (kept slip) (slipLength slip)) (readingRow l)) (drop-at (slipOf u) (slipsOf us) (slipLength slip) (length-bytes slip)) in
     let rest = row-reads us (w .1) (s .1) in
     record {
       accepted = ap (λ (x : RowRead). x .refusal) r ∙ rest .accepted;
-      same = subst (λ (x : RowRead). SameRequests (u ∷ us) (x .requests)) (sym r) (kept-same u, kept-zero u, rest .same);
+      same = subst (λ (x : RowRead). SameRequests (u ∷ us) (x .requests)) (sym r) (kept-back u (w .0), rest .same);
     }
 
 -- what was written of them, one after another
@@ -161,7 +162,7 @@ module _ (u : Request) (us : List Request) (buffer : List ℕ) where
     writable = (written-writable u buffer accepted, behind .writable);
     bytes =
         ap₂ (λ (l : List ℕ) (n : ℕ). take (n + row .length) (l ++ row .buffer))
-        (written-slip u buffer accepted) (written-size u buffer accepted ∙ sym (length-slip u))
+        (written-slip u buffer accepted) (written-size u buffer accepted ∙ sym (length-bytes (inSlip u)))
         ∙ take-append-add (slipOf u) (row .buffer) (row .length)
         ∙ ap (λ (l : List ℕ). slipOf u ++ l) (behind .bytes);
   }

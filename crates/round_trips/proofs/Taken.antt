@@ -13,10 +13,10 @@ use Rattle.tables.proofs.Tests.{fails-second}
 use Rattle.clock.specs.declared.Request.{Request}
 use Rattle.slip.specs.Layout.{slipLength}
 use Rattle.slip.specs.Reading.{refusedBy, leftOver, readingFront, readingSingle}
-use Rattle.slip.specs.Writing.{slipOf, writingTable, Outcome, filled, untouched, writing}
+use Rattle.slip.specs.Writing.{inSlip, slipOf, writingTable, Outcome, filled, untouched, writing}
 use Rattle.slip.specs.declared.Received.{Received}
 use Rattle.slip.proofs.Writings.{Writable, taken, writing-filled}
-use Rattle.round_trips.proofs.Fitting.{length-slip}
+use Rattle.round_trips.proofs.Fitting.{length-bytes}
 
 -- ---- as a single slip
 
@@ -67,10 +67,13 @@ module _ (u : Request) (buffer : List ℕ) (accepted : writing u buffer .refusal
   pub written-writable : Writable u
   written-writable = taken u (length buffer) passed .0
 
+  pub written-room : slipLength (inSlip u) ≤ length buffer
+  written-room = taken u (length buffer) passed .1
+
   pub written-slip : take (writing u buffer .length) (writing u buffer .buffer) ≡ slipOf u
   written-slip =
       ap (λ (o : Outcome). take (o .length) (o .buffer)) written
-      ∙ take-at (slipOf u) (drop (slipLength u) buffer) (slipLength u) (length-slip u)
+      ∙ take-at (slipOf u) (drop (slipLength (inSlip u)) buffer) (slipLength (inSlip u)) (length-bytes (inSlip u))
 
-  pub written-size : writing u buffer .length ≡ slipLength u
+  pub written-size : writing u buffer .length ≡ slipLength (inSlip u)
   written-size = ap (λ (o : Outcome). o .length) written

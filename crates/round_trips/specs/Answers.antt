@@ -1,12 +1,12 @@
 -- Demand 1, of slips: each answer is what its table says; a refused reading gives zeros, and a refused writing leaves
--- every byte. And what isn't flagged does not count.
+-- every byte. And requests that are the same to the word are written alike.
 use mathlib.Core.List.{List, [], _∷_, _++_}
 use mathlib.Core.Path.{_≡_}
 use Prim.Native.Nat.{ℕ}
 use lib.Dec.{ltb}
 use lib.ListN.{length}
 use Rattle.tables.specs.Tables.{Row, _when_, Settled}
-use Rattle.clock.specs.Update.{SameRequest}
+use Rattle.clock.specs.Update.{SameToTheWord}
 use Rattle.clock.specs.declared.Request.{Request}
 use Rattle.slip.specs.Layout.{slipLength}
 use Rattle.slip.specs.Reading.{headed, frontTable, received, refusedBy, readingFront, readingSingle}
@@ -26,6 +26,6 @@ abbrev pub Demand1·writeSlip : Type 0
 Demand1·writeSlip = (u : Request) (buffer : List ℕ) →
     Settled (writingTable u (length buffer)) (writing u buffer) (filled u buffer) (untouched buffer)
 
--- the same request gives the same slip
+-- requests that are the same to the word get the same answer, refusals included: what isn't flagged does not count
 abbrev pub SameSlip : Type 0
-SameSlip = (u v : Request) (buffer : List ℕ) → SameRequest u v → writing u buffer ≡ writing v buffer
+SameSlip = (u v : Request) (buffer : List ℕ) → SameToTheWord u v → writing u buffer ≡ writing v buffer

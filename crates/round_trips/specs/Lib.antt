@@ -1,3 +1,4 @@
 pub mod Answers
 pub mod RoundTrips
 pub mod Rows
+pub mod OldReader

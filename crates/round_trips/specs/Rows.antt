@@ -5,14 +5,13 @@ use Prim.Native.Nat.{ℕ, _+_, _*_, _≤_, _<_}
 use lib.ListN.{length, take, drop}
 use denote.Ref.{now}
 use Rattle.tables.specs.Tables.{answerTo}
-use Rattle.clock.specs.Update.{SameRequest}
 use Rattle.clock.specs.declared.Request.{Request}
 use Rattle.fields.specs.Bits.{Bytes}
 use Rattle.fields.specs.Lent.{Lent, part}
 use Rattle.slip.specs.Reading.{refusedBy, readingFront}
 use Rattle.slip.specs.Writing.{Outcome, writing}
 use Rattle.slip.specs.Row.{readingNext, RowRead, stoppedBy, stepped, readingRow}
-use Rattle.round_trips.specs.RoundTrips.{UnflaggedZero, Sized}
+use Rattle.round_trips.specs.RoundTrips.{BackFrom, Sized}
 
 -- ---- one slip
 
@@ -82,12 +81,12 @@ abbrev pub AllSized : List Request → Type 0
 AllSized [] = Unit
 AllSized (u ∷ us) = Sized u × AllSized us
 
--- the same requests in the same order; arguments that aren't flagged are 0
+-- the requests as they are read back, in the same order
 abbrev pub SameRequests : List Request → List Request → Type 0
 SameRequests [] [] = Unit
 SameRequests [] (v ∷ vs) = ⊥
 SameRequests (u ∷ us) [] = ⊥
-SameRequests (u ∷ us) (v ∷ vs) = SameRequest u v × UnflaggedZero v × SameRequests us vs
+SameRequests (u ∷ us) (v ∷ vs) = BackFrom u v × SameRequests us vs
 
 -- the bytes read back as the requests us
 pub record RowReadsAs (us : List Request) (bytes : List ℕ) : Type 0 where

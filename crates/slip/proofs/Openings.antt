@@ -13,7 +13,7 @@ use Rattle.clock.specs.Update.{wordWrong}
 use Rattle.fields.specs.Field.{field, Inside}
 use Rattle.fields.specs.Record.{AllInside}
 use Rattle.slip.specs.Layout.{headerWidth, wordOf, bare, slipLength, headerLength}
-use Rattle.slip.specs.Reading.{headed, headerTable}
+use Rattle.slip.specs.Reading.{headed, headerTableBy, headerTable}
 use Rattle.slip.specs.Parts.{headerBitsIn, headerIn, openedBy, noSizes, refusedOpening, opening}
 use Rattle.slip.specs.declared.Opened.{Opened}
 use Rattle.slip.proofs.Layouts.{layout-inside}
@@ -35,7 +35,7 @@ module _ (bytes : List ℕ) (bits : ℕ) (as-many : bits ≡ headerBitsIn (lengt
 
 module _ (bytes : List ℕ) where
   pub open-none : length bytes < headerLength → refusedOpening 18 ≡ opening bytes
-  unfolding opening headerTable
+  unfolding opening headerTableBy
   open-none h = simp (lt-ltb (length bytes) headerLength h)
 
   module _ (some : headerLength ≤ length bytes) where
@@ -47,16 +47,16 @@ module _ (bytes : List ℕ) where
     header-word header e = ap (λ (h : ℕ). bare (wordOf h)) (e ∙ header-whole)
 
     pub open-word : wordWrong (headed bytes) ≡ true → refusedOpening 3 ≡ opening bytes
-    unfolding opening headerTable
+    unfolding opening headerTableBy
     open-word w = simp (le-ltb (length bytes) headerLength some, w)
 
     module _ (known : wordWrong (headed bytes) ≡ false) where
       pub open-few : length bytes < slipLength (headed bytes) → refusedOpening 18 ≡ opening bytes
-      unfolding opening headerTable
+      unfolding opening headerTableBy
       open-few h = simp (le-ltb (length bytes) headerLength some, known, lt-ltb (length bytes) (slipLength (headed bytes)) h)
 
       pub open-taken : slipLength (headed bytes) ≤ length bytes → openedBy (headed bytes) ≡ opening bytes
-      unfolding opening headerTable
+      unfolding opening headerTableBy
       open-taken h = simp (le-ltb (length bytes) headerLength some, known, le-ltb (length bytes) (slipLength (headed bytes)) h)
 
   -- ---- what an opening says of the table
@@ -75,7 +75,7 @@ module _ (bytes : List ℕ) where
 
   -- the bytes are as many as the header calls for
   pub enough : first (headerTable bytes) ≡ 0 → slipLength (headed bytes) ≤ length bytes
-  unfolding headerTable
+  unfolding headerTableBy
   enough e = nltb→le (length bytes) (slipLength (headed bytes)) (none-applies (headerTable bytes) tt e .1 .1 .0)
 
   -- a refused one has six fields of no bits

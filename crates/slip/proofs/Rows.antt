@@ -10,9 +10,8 @@ use denote.Ref.{now}
 use Rattle.tables.proofs.Tables.{by-number, told-taken, told-refused}
 use Rattle.fields.specs.Lent.{Lent, Part, from}
 use Rattle.slip.specs.Reading.{readingFront}
-use Rattle.slip.specs.Row.{NextSlip, readingNext, RowRead, stoppedBy, ahead, stepped, rowAfter, readingRow}
+use Rattle.slip.specs.Row.{NextSlip, readingNext, RowRead, stoppedBy, ahead, stepped, rowAfter, rowBy}
 use Rattle.slip.specs.declared.Received.{Received}
-use Rattle.slip.proofs.Fronts.{front-uses, front-within}
 
 -- ---- the row reader
 
@@ -41,13 +40,6 @@ module _ (r : Received) where
   stepped-alike row other h =
       by-number (r .refusal) (λ e. ap (stepped r) (h e)) (λ e. stepped-refused row e ∙ sym (stepped-refused other e))
 
--- bytes that belong to the slip before are passed over
-passed-over : (n : ℕ) (bytes : List ℕ) → rowAfter n bytes ≡ readingRow (drop n bytes)
-unfolding rowAfter readingRow
-passed-over zero bytes = refl
-passed-over (suc n) [] = refl
-passed-over (suc n) (b ∷ bytes) = passed-over n bytes
-
 -- the first byte is at hand already
 drop-more : (n : ℕ) (b : ℕ) (bytes : List ℕ) → 0 < n → drop (n - 1) bytes ≡ drop n (b ∷ bytes)
 drop-more zero b bytes h = absurd (not-suc-le-zero h)
@@ -55,48 +47,57 @@ drop-more (suc n) b bytes h =
     let e : suc n - 1 ≡ n = omega arith in
     ap (λ (k : ℕ). drop k bytes) e
 
-pub row-step
-    : (bytes : List ℕ) → 0 < length bytes
-    → readingRow bytes ≡ stepped (readingFront bytes) (readingRow (drop (readingFront bytes .length) bytes))
-unfolding rowAfter readingRow
-row-step [] h = absurd (not-suc-le-zero h)
-row-step (b ∷ bytes) h =
-    let r = readingFront (b ∷ bytes) in
-    stepped-alike r (rowAfter (r .length - 1) bytes) (readingRow (drop (r .length) (b ∷ bytes)))
-    (λ e. passed-over (r .length - 1) bytes ∙ ap readingRow (drop-more (r .length) b bytes (omega (arith, front-uses (b ∷ bytes) e))))
+-- ---- a row, by a reader that uses bytes where it takes a slip, and no more than there are
 
-pub row-taken
-    : (bytes : List ℕ) → readingFront bytes .refusal ≡ 0
-    → readingRow bytes ≡ ahead (readingFront bytes) (readingRow (drop (readingFront bytes .length) bytes))
-row-taken bytes accepted =
-    row-step bytes (omega (arith, front-uses bytes accepted, front-within bytes))
-    ∙ stepped-taken (readingFront bytes) (readingRow (drop (readingFront bytes .length) bytes)) accepted
+module _ (reader : List ℕ → Received) (uses : (bytes : List ℕ) → reader bytes .refusal ≡ 0 → 0 < reader bytes .length)
+    (within : (bytes : List ℕ) → reader bytes .length ≤ length bytes) where
+  abbrev row : List ℕ → RowRead
+  row bytes = rowBy reader bytes
 
-row-refused : (bytes : List ℕ) → 0 < length bytes → (readingFront bytes .refusal ≡ 0 → ⊥) → readingRow bytes ≡ stoppedBy (readingFront bytes .refusal)
-row-refused bytes some h =
-    row-step bytes some ∙ stepped-refused (readingFront bytes) (readingRow (drop (readingFront bytes .length) bytes)) h
+  -- what is behind the slip on the front
+  abbrev rest : List ℕ → List ℕ
+  rest bytes = drop (reader bytes .length) bytes
 
--- ---- from slip to slip
+  -- bytes that belong to the slip before are passed over
+  passed-over : (n : ℕ) (bytes : List ℕ) → rowAfter reader n bytes ≡ row (drop n bytes)
+  unfolding rowAfter
+  passed-over zero bytes = refl
+  passed-over (suc n) [] = refl
+  passed-over (suc n) (b ∷ bytes) = passed-over n bytes
 
--- the rest is shorter than the bytes were
-shorter : (bytes : List ℕ) (n : ℕ) → readingFront bytes .refusal ≡ 0 → length bytes ≤ suc n → length (drop (readingFront bytes .length) bytes) ≤ n
-shorter bytes n accepted h = omega (arith, length-drop (readingFront bytes .length) bytes, front-uses bytes accepted)
+  pub row-step : (bytes : List ℕ) → 0 < length bytes → row bytes ≡ stepped (reader bytes) (row (rest bytes))
+  unfolding rowAfter
+  row-step [] h = absurd (not-suc-le-zero h)
+  row-step (b ∷ bytes) h =
+      let r = reader (b ∷ bytes) in
+      stepped-alike r (rowAfter reader (r .length - 1) bytes) (row (drop (r .length) (b ∷ bytes)))
+      (λ e. passed-over (r .length - 1) bytes ∙ ap row (drop-more (r .length) b bytes (uses (b ∷ bytes) e)))
 
--- what holds of no bytes and where a slip is refused, and of a slip and a row if of the row, holds of every row
-module _ (Q : List ℕ → RowRead → Type 0) (none : Q [] (stoppedBy 0))
-    (refused : (bytes : List ℕ) → 0 < length bytes → (readingFront bytes .refusal ≡ 0 → ⊥) → Q bytes (stoppedBy (readingFront bytes .refusal)))
-    (taken : (bytes : List ℕ) (row : RowRead) → readingFront bytes .refusal ≡ 0 → Q (drop (readingFront bytes .length) bytes) row → Q bytes (ahead (readingFront bytes) row)) where
-  within : (n : ℕ) (bytes : List ℕ) → length bytes ≤ n → Q bytes (readingRow bytes)
-  unfolding rowAfter readingRow
-  within zero [] h = none
-  within zero (b ∷ bytes) h = absurd (not-suc-le-zero h)
-  within (suc n) [] h = none
-  within (suc n) (b ∷ bytes) h =
-      let l : List ℕ = b ∷ bytes in
-      let rest : List ℕ = drop (readingFront l .length) l in
-      by-number (readingFront l .refusal)
-      (λ e. subst (Q l) (sym (row-taken l e)) (taken l (readingRow rest) e (within n rest (shorter l n e h))))
-      (λ e. subst (Q l) (sym (row-refused l (omega arith) e)) (refused l (omega arith) e))
+  pub row-taken : (bytes : List ℕ) → reader bytes .refusal ≡ 0 → row bytes ≡ ahead (reader bytes) (row (rest bytes))
+  row-taken bytes accepted =
+      row-step bytes (omega (arith, uses bytes accepted, within bytes)) ∙ stepped-taken (reader bytes) (row (rest bytes)) accepted
 
-  pub by-slips : (bytes : List ℕ) → Q bytes (readingRow bytes)
-  by-slips bytes = within (length bytes) bytes (omega arith)
+  pub row-refused : (bytes : List ℕ) → 0 < length bytes → (reader bytes .refusal ≡ 0 → ⊥) → row bytes ≡ stoppedBy (reader bytes .refusal)
+  row-refused bytes some h = row-step bytes some ∙ stepped-refused (reader bytes) (row (rest bytes)) h
+
+  -- the rest is shorter than the bytes were
+  shorter : (bytes : List ℕ) (n : ℕ) → reader bytes .refusal ≡ 0 → length bytes ≤ suc n → length (rest bytes) ≤ n
+  shorter bytes n accepted h = omega (arith, length-drop (reader bytes .length) bytes, uses bytes accepted)
+
+  -- what holds of no bytes and where a slip is refused, and of a slip and a row if of the row, holds of every row
+  module _ (Q : List ℕ → RowRead → Type 0) (none : Q [] (stoppedBy 0))
+      (refused : (bytes : List ℕ) → 0 < length bytes → (reader bytes .refusal ≡ 0 → ⊥) → Q bytes (stoppedBy (reader bytes .refusal)))
+      (taken : (bytes : List ℕ) (behind : RowRead) → reader bytes .refusal ≡ 0 → Q (rest bytes) behind → Q bytes (ahead (reader bytes) behind)) where
+    up-to : (n : ℕ) (bytes : List ℕ) → length bytes ≤ n → Q bytes (row bytes)
+    unfolding rowAfter
+    up-to zero [] h = none
+    up-to zero (b ∷ bytes) h = absurd (not-suc-le-zero h)
+    up-to (suc n) [] h = none
+    up-to (suc n) (b ∷ bytes) h =
+        let l : List ℕ = b ∷ bytes in
+        by-number (reader l .refusal)
+        (λ e. subst (Q l) (sym (row-taken l e)) (taken l (row (rest l)) e (up-to n (rest l) (shorter l n e h))))
+        (λ e. subst (Q l) (sym (row-refused l (omega arith) e)) (refused l (omega arith) e))
+
+    pub by-slips : (bytes : List ℕ) → Q bytes (row bytes)
+    by-slips bytes = up-to (length bytes) bytes (omega arith)

@@ -3,6 +3,7 @@
 use mathlib.Core.Bool.{cond}
 use mathlib.Core.List.{List, [], _∷_}
 use Prim.Native.Nat.{ℕ, _^_, _<_}
+use lib.IntN.{ℤ, pos}
 use lib.Dec.{ltb}
 use lib.ListN.{length, getD}
 use Rattle.tables.specs.Tables.{answer}
@@ -42,11 +43,15 @@ refusedOpening n = record { asked = zeroRequest; sizes = noSizes; refusal = n }
 unfoldable pub opening : List ℕ → Opened
 opening bytes = answer (headerTable bytes) (openedBy (headed bytes)) refusedOpening
 
--- ---- the fields (6, 19)
+-- ---- the fields (6, 19, 31)
 
 -- what a slip of this size answers, whose bytes are enough
 unfoldable pub judging : Request → List ℕ → ℕ → Received
-judging asked values size = answer (fieldsTable values) (taken (requestOf asked values) size) refusedBy
+judging asked values size = answer (fieldsTable asked values) (taken (requestOf asked values) size) refusedBy
+
+-- a request of this word with these times and no other arguments
+abbrev pub timed : ℕ → ℤ → ℤ → Request
+timed word synthetic reference = record { word = word; synthetic = synthetic; reference = reference; rate = pos 0; error = 0 }
 
 -- times that a signed number of 64 bits holds
 pub record Small (values : List ℕ) : Type 0 where

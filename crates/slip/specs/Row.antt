@@ -55,14 +55,17 @@ ahead read row = record {
 abbrev pub stepped : Received → RowRead → RowRead
 stepped read row = answerTo (read .refusal) (ahead read row) stoppedBy
 
--- byte by byte: so many of them belong to the slip before; then comes the next slip, which begins with the byte at
--- hand. The end of the bytes is the end of the row, and no refusal.
-unfoldable pub rowAfter : ℕ → List ℕ → RowRead
-rowAfter n [] = stoppedBy 0
-rowAfter (suc n) (b ∷ bytes) = rowAfter n bytes
-rowAfter zero (b ∷ bytes) =
-    let read = readingFront (b ∷ bytes) in
-    stepped read (rowAfter (read .length - 1) bytes)
+-- by a reader of one slip, byte by byte: so many bytes belong to the slip before; then comes the next slip, which
+-- begins with the byte at hand. The end of the bytes is the end of the row, and no refusal.
+unfoldable pub rowAfter : (List ℕ → Received) → ℕ → List ℕ → RowRead
+rowAfter reader n [] = stoppedBy 0
+rowAfter reader (suc n) (b ∷ bytes) = rowAfter reader n bytes
+rowAfter reader zero (b ∷ bytes) =
+    let read = reader (b ∷ bytes) in
+    stepped read (rowAfter reader (read .length - 1) bytes)
 
-unfoldable pub readingRow : List ℕ → RowRead
-readingRow bytes = rowAfter 0 bytes
+abbrev pub rowBy : (List ℕ → Received) → List ℕ → RowRead
+rowBy reader bytes = rowAfter reader 0 bytes
+
+abbrev pub readingRow : List ℕ → RowRead
+readingRow bytes = rowBy readingFront bytes

@@ -2,19 +2,19 @@
 ghost use mathlib.Core.Path.{_≡_};
 ghost use mathlib.Core.Bool.{not, cond};
 ghost use mathlib.Core.List.{_++_};
-ghost use Prim.Native.Nat.{_^_, _<_, _≤_};
+ghost use Prim.Native.Nat.{_*_, _^_, _<_, _≤_};
 ghost use lib.IntN.{pos, natAbs};
 ghost use lib.Dec.{T};
 ghost use lib.ListN.{length, drop};
 ghost use Rattle.tables.specs.Tables.{first};
 ghost use Rattle.fields.specs.Record.{fields};
 ghost use Rattle.clock.specs.Clock.{InRange, Permitted};
-ghost use Rattle.clock.specs.Update.{valuesOutside, rateTooWide};
-ghost use Rattle.slip.specs.Layout.{bare, timeWidth, rateField, rateOf, rateFieldEnd, flaggedWidth, widths, slipLength};
+ghost use Rattle.clock.specs.Update.{versionUnit, valuesOutside, rateTooWide};
+ghost use Rattle.slip.specs.Layout.{bare, timeWidth, rateField, rateOf, rateFieldEnd, flaggedWidth, widths, slipLength, fitsVersion2, isNeedless};
 ghost use Rattle.slip.specs.Reading.{refusedBy, readingFront, readingSingle};
-ghost use Rattle.slip.specs.Writing.{valuesOf, slipOf, writingTable, writing, outcome};
+ghost use Rattle.slip.specs.Writing.{slipVersion, inSlip, valuesOf, bytesFor, askedTable, writingTable, writtenLength, writing, outcome};
 ghost use Rattle.slip.specs.Row.{nextSlip, readingNext};
-ghost use Rattle.slip.specs.Parts.{sizes, headerBitsIn, headerIn, opening, refusedOpening, judging, Small};
+ghost use Rattle.slip.specs.Parts.{sizes, headerBitsIn, headerIn, opening, refusedOpening, judging, timed, Small};
 use clock::Clock;
 use clock::Request;
 use tables::next;
@@ -49,10 +49,13 @@ pub struct Opened {
     refusal: u8,
 }
 
-// The bits of the header, of a time, a rate and an error bound. The header is the top of the word.
+// The bits of the header, of a time in versions 2 and 3, of a rate and an error bound. The header is the top of the
+// word.
 const HEADER_BITS: usize = 16;
 
-const TIME_BITS: usize = 61;
+const TIME_BITS_2: usize = 61;
+
+const TIME_BITS_3: usize = 63;
 
 const RATE_BITS: usize = 11;
 
@@ -61,8 +64,8 @@ const ERROR_BITS: usize = 64;
 // The bytes of a header, which are a slip where nothing is flagged.
 const HEADER_LENGTH: usize = HEADER_BITS / 8;
 
-// The bytes of the longest slip, which flags all four arguments.
-pub const MAX_LENGTH: usize = (HEADER_BITS + 2 * TIME_BITS + RATE_BITS + ERROR_BITS + 7) / 8;
+// The bytes of the longest slip, which has version 3 and flags all four arguments.
+pub const MAX_LENGTH: usize = (HEADER_BITS + 2 * TIME_BITS_3 + RATE_BITS + ERROR_BITS + 7) / 8;
 
 // The header's last bit, in the word.
 const HEADER_UNIT: u64 = 1 << (64 - HEADER_BITS);
@@ -127,20 +130,25 @@ pub fn write(request: Request, buffer: &mut [u8]) -> Written
 {
     let refusal = writing_refusal(request, buffer.len());
     if refusal == 0 {
-        write_slip(request, &mut *buffer);
-        let length = slip_length(request.word);
+        let slip = in_slip(request);
+        write_slip(slip, &mut *buffer);
+        let length = length_of(slip.word);
         Written { length, refusal }
     } else {
         Written { length: 0, refusal }
     }
 }
 
-// The bytes of a slip whose header is the top of this word.
-pub fn slip_length(word: u64) -> usize
-    ensures { λ r. ⌜ r ≡ slipLength (bare word) ⌝ }
+// How many bytes the request's slip has, 0 where writing refuses it whatever the room.
+pub fn slip_length(request: Request) -> usize
+    ensures { λ r. ⌜ r ≡ writtenLength request ⌝ }
 {
-    let sizes = sizes_of(word);
-    sizes.length
+    if asked_refusal(request) == 0 {
+        let slip = in_slip(request);
+        length_of(slip.word)
+    } else {
+        0
+    }
 }
 
 // ---- the parts of a reading that take no bits
@@ -249,14 +257,18 @@ fn judged(asked: Request, values: [u64; 6], length: usize) -> Received
     ensures { λ r. ⌜ r ≡ judging asked values length ⌝ }
 {
     let rate = values[3];
+    let synthetic = time_of(values[1]);
+    let reference = time_of(values[2]);
+    let needless = is_needless(timed(asked.word, synthetic, reference));
     let r = next(0, RATE_FIELD_END < rate, refusal::RATE_OUTSIDE);
     let r = next(r, values[5] != 0, refusal::PADDING_SET);
+    let r = next(r, needless, refusal::VERSION_NEEDLESS);
     if r == 0 {
         let flags = asked.flags();
         let request = Request {
             word: asked.word,
-            synthetic: time_of(values[1]),
-            reference: time_of(values[2]),
+            synthetic,
+            reference,
             rate: rate_of(flags.rate, rate),
             error: values[4],
         };
@@ -304,20 +316,47 @@ fn refused(refusal: u8) -> Received
 fn bare(word: u64) -> Request
     ensures { λ r. ⌜ r ≡ bare word ⌝ }
 {
+    timed(word, 0, 0)
+}
+
+// A request of this word with these times and no other arguments.
+fn timed(word: u64, synthetic: i64, reference: i64) -> Request
+    ensures { λ r. ⌜ r ≡ timed word synthetic reference ⌝ }
+{
     Request {
         word,
-        synthetic: 0,
-        reference: 0,
+        synthetic,
+        reference,
         rate: 0,
         error: 0,
     }
 }
 
-// The bits of a time: as many for every word of version 2.
-fn time_width(word: u64) -> usize
-    ensures { λ r. ⌜ r ≡ timeWidth word ⌝ }
+// Whether version 2 holds the flagged synthetic and reference.
+fn fits_version_2(request: Request) -> bool
+    ensures { λ r. ⌜ r ≡ fitsVersion2 request ⌝ }
 {
-    TIME_BITS
+    !request.values_beyond(Clock::VERSION_2_END)
+}
+
+// Whether it has version 3, where 2 would do.
+fn is_needless(request: Request) -> bool
+    ensures { λ r. ⌜ r ≡ isNeedless request ⌝ }
+{
+    let newer = request.is_version_3();
+    let fits = fits_version_2(request);
+    newer & fits
+}
+
+// The bits of a time behind its word.
+fn time_width(asked: Request) -> usize
+    ensures { λ r. ⌜ r ≡ timeWidth (asked .word) ⌝ }
+{
+    if asked.is_version_3() {
+        TIME_BITS_3
+    } else {
+        TIME_BITS_2
+    }
 }
 
 // A field that isn't flagged has no bits.
@@ -332,7 +371,7 @@ fn widths_of(word: u64) -> [usize; 5]
     ensures { λ r. ⌜ r ≡ widths (bare word) ⌝ }
 {
     let asked = bare(word);
-    let time = time_width(word);
+    let time = time_width(asked);
     let flags = asked.flags();
     let synthetic = flagged_width(flags.synthetic, time);
     let reference = flagged_width(flags.reference, time);
@@ -352,10 +391,50 @@ fn sizes_of(word: u64) -> Sizes
     Sizes { layout, length }
 }
 
-// Why a request can't be written into a buffer of this size, 0 where it can. It ends at the first test that applies: a
-// request that is written passes four tests, and no number is picked.
-fn writing_refusal(request: Request, size: usize) -> u8
-    ensures { λ r. ⌜ r ≡ first (writingTable request size) ⌝ }
+// The bytes of a slip whose header is the top of this word.
+fn length_of(word: u64) -> usize
+    ensures { λ r. ⌜ r ≡ slipLength (bare word) ⌝ }
+{
+    let sizes = sizes_of(word);
+    sizes.length
+}
+
+// The request as its slip has it: in version 2 where that does, else in version 3.
+fn in_slip(request: Request) -> Request
+    ensures { λ r. ⌜ r ≡ inSlip request ⌝ }
+{
+    let Request {
+        word,
+        synthetic,
+        reference,
+        rate,
+        error,
+    } = request;
+    let version = slip_version(request);
+    Request {
+        word: version + word % Request::VERSION_UNIT,
+        synthetic,
+        reference,
+        rate,
+        error,
+    }
+}
+
+// The version of its slip, as a word has it.
+fn slip_version(request: Request) -> u64
+    ensures { λ r. ⌜ r ≡ slipVersion request * versionUnit ⌝ }
+{
+    if fits_version_2(request) {
+        Request::VERSION_2
+    } else {
+        Request::VERSION_3
+    }
+}
+
+// Why a request can't be written whatever the room, 0 where it can. It ends at the first test that applies: a request
+// that is written passes three tests, and no number is picked.
+fn asked_refusal(request: Request) -> u8
+    ensures { λ r. ⌜ r ≡ first (askedTable request) ⌝ }
 {
     if request.word_wrong() {
         return refusal::WORD_WRONG;
@@ -366,16 +445,28 @@ fn writing_refusal(request: Request, size: usize) -> u8
     if request.rate_too_wide() {
         return refusal::RATE_OUTSIDE;
     }
-    if size < slip_length(request.word) {
+    0
+}
+
+// Why it can't be written into a buffer of this size, 0 where it can.
+fn writing_refusal(request: Request, size: usize) -> u8
+    ensures { λ r. ⌜ r ≡ first (writingTable request size) ⌝ }
+{
+    let r = asked_refusal(request);
+    if r != 0 {
+        return r;
+    }
+    let slip = in_slip(request);
+    if size < length_of(slip.word) {
         return refusal::BUFFER_SHORT;
     }
     0
 }
 
-// Writes the slip of a request that fits, into a buffer that has room for it.
+// Writes a request whose arguments fit its word, in the version that it has, into a buffer with room for it.
 fn write_slip(request: Request, buffer: &mut [u8])
     requires { ⌜ T (not (valuesOutside request)) × T (not (rateTooWide request)) × (slipLength request ≤ length (now buffer)) ⌝ }
-    ensures { λ _. ⌜ now (buffer .exit) ≡ slipOf request ++ drop (slipLength request) (now (buffer .entry)) ⌝ }
+    ensures { λ _. ⌜ now (buffer .exit) ≡ bytesFor request ++ drop (slipLength request) (now (buffer .entry)) ⌝ }
 {
     let sizes = sizes_of(request.word);
     let layout = sizes.layout;

@@ -66,5 +66,8 @@ pub const BUFFER_SHORT: u8 = 21;
 // A clock that runs is handed a rate more than 200 from its own.
 pub const RATE_STEP: u8 = 22;
 
+// A slip has version 3, though version 2 would hold it.
+pub const VERSION_NEEDLESS: u8 = 31;
+
 // None of the papers' numbers: what was handed in is not taken for a clock.
 pub const NOT_A_CLOCK: u8 = 255;

@@ -119,6 +119,7 @@ fn arguments(request: Request) {
         rate,
         error,
     } = request;
+    named(request.is_version_3(), b" version 3");
     argument(word / Request::SYNTHETIC % 2 == 1, b" set ", synthetic);
     argument(
         word / Request::REFERENCE % 2 == 1,

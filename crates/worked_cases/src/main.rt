@@ -36,6 +36,7 @@ fn main() {
     request_2();
     request_7();
     request_9();
+    request_11();
 }
 
 // Case 1's clock, or one of another word: case 2 and some lives of R-9 go on with it.
@@ -121,7 +122,7 @@ fn case_9(now: i64) {
 fn case_10() {
     case(10);
     let c = create(PLAIN, 0, 0);
-    let c = update(c, requests::set(Clock::END), 0);
+    let c = update(c, requests::version_3(requests::set(Clock::END)), 0);
     read(c, 0);
     read(c, 1);
     print::end();
@@ -370,7 +371,7 @@ fn steps_between_11_and_12() {
     print::end();
     head(b"R-", 9);
     let c = create(PLAIN, 0, 0);
-    let c = update(c, requests::set(Clock::END), 0);
+    let c = update(c, requests::version_3(requests::set(Clock::END)), 0);
     let c = update(c, requests::rate(200), 1);
     update(c, requests::rate(201), 1);
     print::end();
@@ -388,6 +389,61 @@ fn steps_before_13_and_14() {
     let c = create(Clock::MONOTONIC | Clock::AUTO_START, 0, 0);
     let c = update(c, requests::rate_at(-200, 1_000_000_000), 2_000_000_000);
     update(c, requests::rate_at(-201, 1_000_000_000), 2_000_000_000);
+    print::end();
+}
+
+fn request_11() {
+    end_of_version_2();
+    sums_past_64_bits();
+    compared_past_64_bits();
+    head(b"R-", 11);
+    let c = create(PLAIN, Clock::END, Clock::END);
+    read(c, Clock::END);
+    print::end();
+}
+
+// A version 2 word keeps the old end, for the value and for the reference.
+fn end_of_version_2() {
+    let past = Clock::VERSION_2_END + 1;
+    head(b"R-", 11);
+    let c = create(PLAIN, 0, 0);
+    let c = update(c, requests::set(past), 0);
+    let c = update(c, requests::set_at(0, past), 0);
+    let c = update(c, requests::version_3(requests::set(past)), 0);
+    read(c, 0);
+    let c = update(c, requests::set(Clock::VERSION_2_END), 0);
+    read(c, 1);
+    print::end();
+}
+
+// Values past 2^63 and past 2^64 are above END, and don't wrap.
+fn sums_past_64_bits() {
+    let end = requests::version_3(requests::set(Clock::END));
+    head(b"R-", 11);
+    let c = create(PLAIN, 0, 0);
+    let c = update(c, end, 0);
+    read(c, Clock::END);
+    let steep = requests::set_at_with_rate(Clock::END, 0, 200);
+    let c = update(c, requests::version_3(steep), Clock::END);
+    let level = requests::set_at(Clock::END - 1, 0);
+    let c = update(c, requests::version_3(level), Clock::END);
+    let c = update(c, end, Clock::END);
+    read(c, Clock::END);
+    print::end();
+}
+
+// So are values far below 0 for rule 13, and an old value past 2^63 for rule 14.
+fn compared_past_64_bits() {
+    head(b"R-", 11);
+    let c = create(PLAIN, 0, 0);
+    let late = requests::set_at_with_rate(0, Clock::END, 1000);
+    update(c, requests::version_3(late), 0);
+    print::end();
+    let end = requests::version_3(requests::set(Clock::END));
+    head(b"R-", 11);
+    let c = create(Clock::MONOTONIC, 0, 0);
+    let c = update(c, end, 0);
+    update(c, end, Clock::END);
     print::end();
 }
 

@@ -1,8 +1,18 @@
-// Requests by what they flag: version 2, and 0 for each argument that is not named.
+// Requests by what they flag: version 2, where 3 isn't said, and 0 for each argument that is not named.
 use clock::Request;
 
 pub fn set(synthetic: i64) -> Request {
     request(Request::SYNTHETIC, synthetic, 0, 0, 0)
+}
+
+pub fn set_at(synthetic: i64, reference: i64) -> Request {
+    request(
+        Request::SYNTHETIC | Request::REFERENCE,
+        synthetic,
+        reference,
+        0,
+        0,
+    )
 }
 
 pub fn set_with_rate(synthetic: i64, rate: i32) -> Request {
@@ -28,6 +38,17 @@ pub fn error(error: u64) -> Request {
 
 pub fn error_at(error: u64, reference: i64) -> Request {
     request(Request::REFERENCE | Request::ERROR, 0, reference, 0, error)
+}
+
+// The same in version 3.
+pub fn version_3(request: Request) -> Request {
+    Request {
+        word: request.word | Request::VERSION_3,
+        synthetic: request.synthetic,
+        reference: request.reference,
+        rate: request.rate,
+        error: request.error,
+    }
 }
 
 fn request(flags: u64, synthetic: i64, reference: i64, rate: i32, error: u64) -> Request {

@@ -2,7 +2,7 @@
 
 use cementoad_sys::{
     AUTO_START, CONTINUOUS, END, ERROR, LONGEST_SLIP, MAX_RATE, MAX_RATE_STEP, MONOTONIC, RATE, REFERENCE, SYNTHETIC,
-    VERSION_2,
+    VERSION_2, VERSION_2_END, VERSION_3,
 };
 use cementoad_sys::{Clock, Request, cementoad_create, cementoad_read, cementoad_slip_length, cementoad_update};
 
@@ -18,8 +18,8 @@ pub const FULL: u64 = SYNTHETIC | REFERENCE | RATE | ERROR;
 const PLAIN: u8 = 0;
 /// The creation words without auto start.
 const KINDS: [u8; 3] = [PLAIN, MONOTONIC, MONOTONIC | CONTINUOUS];
-/// Bits of which each makes a good update word a wrong one.
-const WRONG_BITS: [u32; 5] = [58, 60, 0, 30, 53];
+/// Bits of which each makes a good update word of version 2 a wrong one.
+const WRONG_BITS: [u32; 5] = [59, 60, 0, 30, 53];
 const WRONG_RATES: [i32; 4] = [1001, -1001, i32::MIN, i32::MAX];
 
 /// How far now lies from a clock's reference.
@@ -27,7 +27,7 @@ const WRONG_RATES: [i32; 4] = [1001, -1001, i32::MIN, i32::MAX];
 pub enum Distance {
     /// 1 ns to 10 ms, each length of the number as often as any.
     Near,
-    /// Above 2^60 ns, with now near END.
+    /// Above 2^60 ns, with now near the end of version 2.
     Far,
 }
 
@@ -79,18 +79,33 @@ impl Dice {
         choices[self.between(0, choices.len() as i64 - 1) as usize]
     }
 
-    /// A time that is outside 0..END.
-    fn outside(&mut self) -> i64 {
-        let (first, last) = self.of(&[(END + 1, i64::MAX), (i64::MIN, -1)]);
+    /// A time that no call may be made at.
+    fn time_outside(&mut self) -> i64 {
+        self.between(i64::MIN, -1)
+    }
+
+    /// A value that a version 2 request can't have.
+    fn value_outside(&mut self) -> i64 {
+        let (first, last) = self.of(&[(VERSION_2_END + 1, END), (i64::MIN, -1)]);
         self.between(first, last)
     }
 
-    /// A request that a slip can hold and that flags these arguments. The others are not zero either.
+    /// A request of version 2 that a slip can hold and that flags these arguments. The others are not zero either.
     fn request(&mut self, flags: u64) -> Request {
+        self.request_between(VERSION_2 | flags, 0, VERSION_2_END)
+    }
+
+    /// A request of version 3 that flags these arguments, with times past the end of version 2.
+    fn late_request(&mut self, flags: u64) -> Request {
+        self.request_between(VERSION_3 | flags, VERSION_2_END + 1, END)
+    }
+
+    /// A request of this word that a slip can hold, with its times from the first to the last.
+    fn request_between(&mut self, word: u64, first: i64, last: i64) -> Request {
         Request {
-            word: VERSION_2 | flags,
-            synthetic: self.between(0, END),
-            reference: self.between(0, END),
+            word,
+            synthetic: self.between(first, last),
+            reference: self.between(first, last),
             rate: self.between((-MAX_RATE).into(), MAX_RATE.into()) as i32,
             error: self.any(),
         }
@@ -136,7 +151,10 @@ impl Dice {
                 let value = self.between(1 << 60, (1 << 60) + (1 << 59));
                 (start, value, start + self.between(1, longest))
             }
-            Far => (self.between(1 << 56, 1 << 59), self.between(1, 1 << 50), self.between(END - (1 << 50), END)),
+            Far => {
+                let (start, value) = (self.between(1 << 56, 1 << 59), self.between(1, 1 << 50));
+                (start, value, self.between(VERSION_2_END - (1 << 50), VERSION_2_END))
+            }
         };
         let word = self.of(words);
         let mut clock = self.begun(word, value, start);
@@ -207,7 +225,7 @@ pub fn refused_readings(dice: &mut Dice) -> Vec<Asking> {
         let (clock, _) = dice.running(&KINDS, Near);
         let refusal = dice.of(&[1, 2, 12]);
         let now = match refusal {
-            1 => dice.outside(),
+            1 => dice.time_outside(),
             2 => dice.between(0, clock.latest - 1),
             // A near clock reads 2^60 or more soon after its start, so it is above END well before END.
             _ => dice.between(END - (1 << 50), END),
@@ -259,10 +277,10 @@ pub fn refused_requests(dice: &mut Dice) -> Vec<Updating> {
         let (mut clock, mut now) = dice.running(words, Near);
         let mut request = dice.request(flags);
         match refusal {
-            1 => now = dice.outside(),
+            1 => now = dice.time_outside(),
             2 => now = dice.between(0, clock.latest - 1),
             3 => request.word ^= 1 << dice.of(&WRONG_BITS),
-            5 => request.synthetic = dice.outside(),
+            5 => request.synthetic = dice.value_outside(),
             6 => request.rate = dice.of(&WRONG_RATES),
             8 => clock = created(clock.word, 1, clock.latest),
             22 => request.rate = dice.rate_beyond_a_step(&clock),
@@ -282,7 +300,7 @@ pub fn refused_lines(dice: &mut Dice, distance: Distance) -> Vec<Updating> {
             12 => Request {
                 synthetic: END - dice.between(0, 1_000),
                 reference: now - dice.between(10_000, 1_000_000),
-                ..dice.request(SYNTHETIC | REFERENCE)
+                ..dice.late_request(SYNTHETIC | REFERENCE)
             },
             13 => set(dice.between(0, clock.backstop - 1), dice.request(SYNTHETIC)),
             _ => {
@@ -301,9 +319,19 @@ pub fn writings(dice: &mut Dice, flags: u64) -> Vec<Writing> {
     dice.many(|dice| (dice.request(flags), LONGEST_SLIP))
 }
 
+/// Requests of version 3 with all arguments flagged, each with a buffer for the longest slip.
+pub fn late_writings(dice: &mut Dice) -> Vec<Writing> {
+    dice.many(|dice| (dice.late_request(FULL), LONGEST_SLIP))
+}
+
 /// Slips with these arguments flagged.
 pub fn slips(dice: &mut Dice, flags: u64) -> Vec<Slip> {
     dice.many(|dice| Slip::of(&dice.request(flags)))
+}
+
+/// Slips of version 3 with all arguments flagged.
+pub fn late_slips(dice: &mut Dice) -> Vec<Slip> {
+    dice.many(|dice| Slip::of(&dice.late_request(FULL)))
 }
 
 /// Flags of a slip that can be refused with this number.
@@ -324,9 +352,9 @@ pub fn refused_writings(dice: &mut Dice) -> Vec<Writing> {
         let mut size = LONGEST_SLIP;
         match refusal {
             3 => request.word ^= 1 << dice.of(&WRONG_BITS),
-            5 => request.synthetic = dice.outside(),
+            5 => request.synthetic = dice.value_outside(),
             6 => request.rate = dice.of(&WRONG_RATES),
-            _ => size = dice.between(0, cementoad_slip_length(request.word) as i64 - 1) as usize,
+            _ => size = dice.between(0, cementoad_slip_length(request) as i64 - 1) as usize,
         }
         let buffer = &mut [0; LONGEST_SLIP][..size];
         assert_eq!(rival::write_slip(&request, buffer).0, refusal);
@@ -341,7 +369,7 @@ pub fn refused_slips(dice: &mut Dice) -> Vec<Slip> {
         let flags = slip_flags(dice, refusal);
         let mut slip = Slip::of(&dice.request(flags));
         match (refusal, flags) {
-            (3, _) => slip.bytes[0] ^= dice.of(&[4, 16, 128]),
+            (3, _) => slip.bytes[0] ^= dice.of(&[8, 16, 128]),
             // The rate field, all ones, from bit 138 on or from bit 16 on.
             (6, FULL) => {
                 slip.bytes[17] |= 0x3F;

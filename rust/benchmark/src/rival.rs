@@ -8,11 +8,13 @@
 
 mod slip;
 
-use cementoad_sys::{AUTO_START, CONTINUOUS, ERROR, MONOTONIC, RATE, REFERENCE, Request, SYNTHETIC};
+use cementoad_sys::{AUTO_START, CONTINUOUS, ERROR, MONOTONIC, RATE, REFERENCE, Request, SYNTHETIC, VERSION_2};
 pub use slip::{read_single_slip, read_slip, slip_length, write_slip};
 
-/// The end of the range of times and values.
-const END: i128 = (1 << 61) - 1;
+/// The end of the range of times and values (02, R-11).
+const END: i128 = (1 << 63) - 1;
+/// The end for a request and a slip of version 2.
+const VERSION_2_END: i128 = (1 << 61) - 1;
 /// The widest rate adjustment, in parts per million.
 const MAX_RATE: i32 = 1000;
 /// The widest step of the rate of a clock that runs (02, R-9).
@@ -96,9 +98,15 @@ impl Asked {
         }
     }
 
-    /// Refusal 5.
-    fn value_outside(&self) -> bool {
+    /// Whether a value or a time is flagged that is outside 0..end.
+    fn is_outside(&self, end: i128) -> bool {
+        let outside = |time| beyond(time, end);
         self.synthetic.is_some_and(outside) || self.reference.is_some_and(outside)
+    }
+
+    /// Refusal 5 of what this word flags: version 2 keeps its own end (02, R-11).
+    fn value_outside(&self, word: u64) -> bool {
+        self.is_outside(if is_version_2(word) { VERSION_2_END } else { END })
     }
 
     /// Refusal 6.
@@ -112,13 +120,22 @@ impl Asked {
     }
 }
 
-fn outside(time: i128) -> bool {
-    time < 0 || time > END
+fn beyond(time: i128, end: i128) -> bool {
+    time < 0 || time > end
 }
 
-/// Refusal 3 of an update word: its top six bits are not 2, or one of its 54 lowest bits is set.
+fn outside(time: i128) -> bool {
+    beyond(time, END)
+}
+
+/// Whether an update word that is not wrong has version 2, and not 3.
+fn is_version_2(word: u64) -> bool {
+    word >> 58 == VERSION_2 >> 58
+}
+
+/// Refusal 3 of an update word: its top six bits are neither 2 nor 3, or one of its 54 lowest bits is set.
 fn wrong_word(word: u64) -> bool {
-    word >> 58 != 2 || word & (ERROR - 1) != 0
+    word >> 59 != VERSION_2 >> 59 || word & (ERROR - 1) != 0
 }
 
 /// A check: where it applies, its number is the answer.
@@ -195,7 +212,7 @@ fn updated(clock: &Clock, word: u64, asked: &Asked, now: i128) -> Result<Clock, 
     refuse(2, now < clock.latest)?;
     refuse(3, wrong_word(word))?;
     refuse(4, !sets && !refers && !rates && asked.error.is_none())?;
-    refuse(5, asked.value_outside())?;
+    refuse(5, asked.value_outside(word))?;
     refuse(6, asked.rate_outside())?;
     refuse(7, refers && !sets && !rates)?;
     refuse(8, !clock.started && !sets)?;

@@ -26,7 +26,7 @@ pub fn rows() -> Vec<Row> {
     let dice = &mut Dice(1);
     vec![
         loop_alone("no call: the loop alone"),
-        empty("empty call: the length of a slip of word 0"),
+        empty("empty call: the length of a request that has no slip"),
         started("started, which tests the clock", inputs::askings(dice, Near)),
         creation("creation", inputs::creations(dice)),
         reading("reading, before the start", inputs::resting(dice)),
@@ -42,12 +42,14 @@ pub fn rows() -> Vec<Row> {
         update("update, refused (12 to 14), near", inputs::refused_lines(dice, Near)),
         update("update, refused (12 to 14), far", inputs::refused_lines(dice, Far)),
         slip_reading("slip reading: all four fields, 27 bytes", inputs::slips(dice, FULL)),
+        slip_reading("slip reading: all four fields, version 3, 28 bytes", inputs::late_slips(dice)),
         slip_reading("slip reading: set, 10 bytes", inputs::slips(dice, SYNTHETIC)),
         slip_reading("slip reading: rate, 4 bytes", inputs::slips(dice, RATE)),
         slip_reading("slip reading, refused (3, 6, 18, 19)", inputs::refused_slips(dice)),
         single_slip_reading("slip reading, single: all four fields, 27 bytes", inputs::slips(dice, FULL)),
         row_reading("slip reading, 16 in a row: all four fields, 432 bytes a call", inputs::slips(dice, FULL)),
         slip_writing("slip writing: all four fields, 27 bytes", inputs::writings(dice, FULL)),
+        slip_writing("slip writing: all four fields, version 3, 28 bytes", inputs::late_writings(dice)),
         slip_writing("slip writing: set, 10 bytes", inputs::writings(dice, SYNTHETIC)),
         slip_writing("slip writing: rate, 4 bytes", inputs::writings(dice, RATE)),
         slip_writing("slip writing, refused (3, 5, 6, 21)", inputs::refused_writings(dice)),
@@ -97,9 +99,9 @@ fn loop_alone(name: &str) -> Row {
 fn empty(name: &str) -> Row {
     row(
         name,
-        [(0, 0); COUNT],
-        |&word| ffi::cementoad_slip_length(word),
-        |&word| rival::slip_length(word),
+        [(Request::default(), Request::default()); COUNT],
+        |request| ffi::cementoad_slip_length(*request),
+        rival::slip_length,
         |length| length,
     )
 }
@@ -257,7 +259,7 @@ mod tests {
     /// A row is made only where all sides answer alike on all of its inputs.
     #[test]
     fn all_sides_answer_alike() {
-        assert_eq!(rows().len(), 26);
+        assert_eq!(rows().len(), 28);
     }
 
     /// No row has bytes behind a single slip.
@@ -266,6 +268,16 @@ mod tests {
         for slip in inputs::slips(&mut Dice(1), FULL) {
             let bytes = [slip.bytes(), &[0]].concat();
             assert_eq!(answer(ffi::read_single_slip(&bytes)), rival::read_single_slip(&bytes));
+        }
+    }
+
+    /// No row has a version 3 slip that version 2 would hold, as it does any rate.
+    #[test]
+    fn needless_versions_are_refused_alike() {
+        for slip in inputs::slips(&mut Dice(1), RATE) {
+            let bytes = [&[slip.bytes()[0] | 4], &slip.bytes()[1..]].concat();
+            assert_eq!(rival::read_slip(&bytes).0, 31);
+            assert_eq!(answer(ffi::read_slip(&bytes)), rival::read_slip(&bytes));
         }
     }
 

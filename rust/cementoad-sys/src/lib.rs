@@ -13,10 +13,13 @@ pub use abi::check_archive;
 /// The version of the boundary that is declared here. It goes up with every change of a struct, a function or a number
 /// that callers were built with, and with every new refusal. Where [`cementoad_abi`] answers another, nothing else of
 /// the archive may be called.
-pub const ABI: u32 = 4;
+pub const ABI: u32 = 5;
 
-/// The end of the range of times and values, 2^61 - 1.
-pub const END: i64 = (1 << 61) - 1;
+/// The end of the range of times and values, 2^63 - 1.
+pub const END: i64 = i64::MAX;
+
+/// The end for synthetic and reference of a version 2 request and slip, 2^61 - 1.
+pub const VERSION_2_END: i64 = (1 << 61) - 1;
 
 /// The widest rate adjustment, in parts per million.
 pub const MAX_RATE: i32 = 1000;
@@ -28,7 +31,7 @@ pub const MAX_RATE_STEP: i32 = 200;
 pub const UNKNOWN_ERROR: u64 = u64::MAX;
 
 /// The bytes of the longest slip.
-pub const LONGEST_SLIP: usize = 27;
+pub const LONGEST_SLIP: usize = 28;
 
 /// The bit of a creation word for a clock whose readings never fall while the times don't.
 pub const MONOTONIC: u8 = 128;
@@ -39,8 +42,11 @@ pub const CONTINUOUS: u8 = 64;
 /// The bit of a creation word for a clock that starts at creation, as the line from 0 at 0.
 pub const AUTO_START: u8 = 32;
 
-/// The version of an update word, its top six bits.
+/// The older version of an update word, its top six bits.
 pub const VERSION_2: u64 = 2 << 58;
+
+/// The newer version of an update word, for a synthetic or a reference past [`VERSION_2_END`].
+pub const VERSION_3: u64 = 3 << 58;
 
 /// The flag of the value to set.
 pub const SYNTHETIC: u64 = 1 << 57;
@@ -105,7 +111,8 @@ pub struct Clock {
     pub started: u8,
 }
 
-/// An update's word and arguments. The word's flags say which arguments count.
+/// An update's word and arguments. The word's flags say which arguments count, its version where synthetic and
+/// reference end: at [`VERSION_2_END`] or at [`END`].
 #[repr(C)]
 #[derive(Clone, Copy, Debug, Default, PartialEq, Eq, Hash)]
 pub struct Request {
@@ -233,27 +240,30 @@ unsafe extern "C" {
     /// Whether it is a clock and started.
     pub safe fn cementoad_is_started(clock: Clock) -> bool;
 
-    /// The request of the slip on the front of the bytes, whatever follows it, or refusal 3, 6, 18 or 19.
+    /// The request of the slip on the front of the bytes, whatever follows it, or refusal 3, 6, 18, 19 or 31. The word
+    /// has the slip's version.
     ///
     /// # Safety
     /// `bytes` points to `size` bytes that can be read, and is not null, also where `size` is 0.
     pub unsafe fn cementoad_read_slip(bytes: *const u8, size: usize) -> Received;
 
-    /// The request of a slip that is all of the bytes, or refusal 3, 6, 18, 19 or, tested last, 20.
+    /// The request of a slip that is all of the bytes, or refusal 3, 6, 18, 19, 31 or, tested last, 20.
     ///
     /// # Safety
     /// `bytes` points to `size` bytes that can be read, and is not null, also where `size` is 0.
     pub unsafe fn cementoad_read_single_slip(bytes: *const u8, size: usize) -> Received;
 
     /// Writes the request as a slip to the front of the buffer, or answers refusal 3, 5, 6 or 21 and writes nothing.
+    /// The slip has version 2 where no flagged synthetic or reference lies past [`VERSION_2_END`], else version 3.
     ///
     /// # Safety
     /// `buffer` points to `size` bytes that are initialised and can be written, and is not null, also where `size` is
     /// 0.
     pub unsafe fn cementoad_write_slip(request: Request, buffer: *mut u8, size: usize) -> Written;
 
-    /// How many bytes a slip of this word has, by its flags alone.
-    pub safe fn cementoad_slip_length(word: u64) -> usize;
+    /// How many bytes the request's slip has: what writing it answers, given room. 0 where writing it is refused with
+    /// 3, 5 or 6, whatever the room.
+    pub safe fn cementoad_slip_length(request: Request) -> usize;
 }
 
 /// As [`cementoad_read_slip`], of lent bytes.

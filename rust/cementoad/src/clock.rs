@@ -28,8 +28,12 @@ pub struct Clock {
 }
 
 impl Clock {
-    /// The end of the range of times and values, 2^61 - 1.
+    /// The end of the range of times and values, 2^63 - 1.
     pub const END: i64 = ffi::END;
+
+    /// The end for the value and the reference time of a version 2 request, 2^61 - 1. [`Request::version_3`] has those
+    /// that lie past it.
+    pub const VERSION_2_END: i64 = ffi::VERSION_2_END;
 
     /// The widest rate adjustment, in parts per million.
     pub const MAX_RATE: i32 = ffi::MAX_RATE;
@@ -75,7 +79,7 @@ impl Clock {
     /// use cementoad::{Clock, Refusal, Request};
     ///
     /// let mut clock = Clock::create(0, 0, 0)?;
-    /// clock.update(&Request::new().synthetic(Clock::END), 0)?;
+    /// clock.update(&Request::version_3().synthetic(Clock::END), 0)?;
     /// assert_eq!(clock.read(0), Ok(Clock::END));
     /// assert_eq!(clock.read(1), Err(Refusal::LineOutside));
     /// # Ok::<(), Refusal>(())

@@ -4,9 +4,9 @@
 //! rules give, for any words, numbers, times and bytes that are handed in. Not proved but assumed are the back end that
 //! made machine code of that source, and the declarations here, which tests compare with the archive.
 //!
-//! This crate puts Rust's own idioms around the archive and decides nothing. It panics at first use where the archive
-//! is of another version than the one it was written for. Times and values are whole nanoseconds in 0..[`Clock::END`],
-//! rates are whole parts per million, and each call is handed its own now.
+//! This crate puts Rust's own idioms around the archive and decides nothing but which requests are equal. It panics at
+//! first use where the archive is of another version than the one it was written for. Times and values are whole
+//! nanoseconds in 0..[`Clock::END`], rates are whole parts per million, and each call is handed its own now.
 //!
 //! ```
 //! use cementoad::{Clock, Refusal, Request};

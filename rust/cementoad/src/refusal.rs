@@ -82,10 +82,11 @@ refusals! {
     (20, BytesLeftOver, "BYTES_LEFT_OVER", "bytes follow what is read");
     (21, BufferShort, "BUFFER_SHORT", "the buffer is too short for what is written");
     (22, RateStep, "RATE_STEP", "a clock that runs is handed a rate more than 200 from its own");
+    (31, VersionNeedless, "VERSION_NEEDLESS", "a slip has version 3, though version 2 would hold it");
 }
 
 impl Refusal {
-    /// The paper's number, 1 to 22.
+    /// The paper's number, 1 to 22 or 31.
     pub const fn number(self) -> u8 {
         self as u8
     }
@@ -107,7 +108,7 @@ impl fmt::Display for Refusal {
 
 impl Error for Refusal {}
 
-/// A number that is none of the paper's refusals: 0, or one above 22.
+/// A number that is none of these refusals: 0, 23 to 30, or one above 31.
 #[derive(Clone, Copy, Debug, PartialEq, Eq, Hash)]
 pub struct UnknownRefusal(
     /// The number.

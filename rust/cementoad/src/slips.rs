@@ -9,7 +9,7 @@ use crate::{Refusal, Request, ffi};
 /// The requests of slips that follow one another in lent bytes.
 ///
 /// At the end of the bytes the row ends, and no bytes at all are a row of no slips. A slip that is refused, with 3, 6,
-/// 18 or 19, ends the row too: its refusal is told once, and the rest begins with that slip.
+/// 18, 19 or 31, ends the row too: its refusal is told once, and the rest begins with that slip.
 ///
 /// ```
 /// use cementoad::{Refusal, Request, Slips};

@@ -4,7 +4,7 @@ use std::collections::BTreeSet;
 
 use cementoad::{Refusal, UnknownRefusal};
 
-const NAMES: [&str; 22] = [
+const NAMES: [&str; 23] = [
     "NOW_OUTSIDE",
     "NOW_EARLY",
     "WORD_WRONG",
@@ -27,12 +27,18 @@ const NAMES: [&str; 22] = [
     "BYTES_LEFT_OVER",
     "BUFFER_SHORT",
     "RATE_STEP",
+    "VERSION_NEEDLESS",
 ];
+
+/// Their numbers.
+fn numbers() -> impl Iterator<Item = u8> {
+    (1..=22).chain([31])
+}
 
 #[test]
 fn numbers_and_names_are_those_of_the_paper() {
     assert_eq!(Refusal::ALL.len(), NAMES.len());
-    for ((refusal, number), name) in Refusal::ALL.iter().zip(1..).zip(NAMES) {
+    for ((refusal, number), name) in Refusal::ALL.iter().zip(numbers()).zip(NAMES) {
         let is_invalid_args = (3..=17).contains(&number);
         assert_eq!(refusal.number(), number);
         assert_eq!(refusal.name(), name);
@@ -45,7 +51,7 @@ fn numbers_and_names_are_those_of_the_paper() {
 #[test]
 fn each_text_has_its_number_and_a_sentence_of_its_own() {
     let mut sentences = BTreeSet::new();
-    for (refusal, number) in Refusal::ALL.iter().zip(1..) {
+    for (refusal, number) in Refusal::ALL.iter().zip(numbers()) {
         let text = refusal.to_string();
         let sentence = text.strip_prefix(&format!("refusal {number}: ")).unwrap();
         assert!(sentences.insert(sentence.to_owned()), "{sentence}");
@@ -54,7 +60,7 @@ fn each_text_has_its_number_and_a_sentence_of_its_own() {
 
 #[test]
 fn other_numbers_are_unknown() {
-    for number in (0..=255).filter(|number| !(1..=22).contains(number)) {
+    for number in (0..=255).filter(|number| !numbers().any(|known| known == *number)) {
         assert_eq!(Refusal::try_from(number), Err(UnknownRefusal(number)));
     }
     assert_eq!(UnknownRefusal(23).to_string(), "23 is not the number of a refusal");

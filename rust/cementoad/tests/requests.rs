@@ -21,7 +21,7 @@ fn others(word: u64) -> [(u64, ffi::Request); 4] {
 }
 
 fn words() -> impl Iterator<Item = u64> {
-    (0..16).map(|flags| Request::VERSION_2 | flags << 54)
+    (0..16).flat_map(|flags| [Request::VERSION_2, Request::VERSION_3].map(|version| version | flags << 54))
 }
 
 fn hash(request: &Request) -> u64 {
@@ -40,6 +40,21 @@ fn requests_are_equal_by_word_and_flagged_arguments() {
             assert_eq!(hash(&one) == hash(&other), word & flag == 0, "word {word:x}, flag {flag:x}");
         }
         assert_ne!(one, with_word(word | 1).into());
+    }
+}
+
+#[test]
+fn requests_are_the_same_whichever_known_version_they_have() {
+    for word in words() {
+        let (one, unknown) = (Request::from(with_word(word)), Request::from(with_word(word ^ 4 << 58)));
+        for (flag, other) in others(word ^ Request::VERSION_2 ^ Request::VERSION_3) {
+            let other = Request::from(other);
+            assert_ne!(one, other);
+            assert_eq!(one.is_same_request(&other), word & flag == 0, "word {word:x}, flag {flag:x}");
+        }
+        assert!(one.is_same_request(&one));
+        assert!(!one.is_same_request(&with_word(word | 1).into()));
+        assert!(!one.is_same_request(&unknown) && !unknown.is_same_request(&one) && !unknown.is_same_request(&unknown));
     }
 }
 
@@ -63,6 +78,7 @@ fn naming_an_argument_flags_it() {
     let word = Request::VERSION_2 | Request::SYNTHETIC | Request::REFERENCE | Request::RATE | Request::ERROR;
     assert_eq!(ffi::Request::from(&named), with_word(word));
     assert_eq!(Request::new().rate(-23), with_word(Request::VERSION_2 | Request::RATE).into());
+    assert_eq!(Request::version_3().rate(-23), with_word(Request::VERSION_3 | Request::RATE).into());
     assert_eq!(Request::default(), with_word(Request::VERSION_2).into());
 }
 

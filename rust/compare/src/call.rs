@@ -17,7 +17,7 @@ pub enum Call {
     ReadSingleSlip(Vec<u8>),
     ReadRow(Vec<u8>),
     WriteSlip(Request, Vec<u8>),
-    SlipLength(u64),
+    SlipLength(Request),
 }
 
 /// All that comes back. A lent buffer comes back whole. A row of slips gives its requests, the refusal at which it

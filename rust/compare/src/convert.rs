@@ -1,6 +1,6 @@
 //! Requests, lines and clocks in the boundary's types and in the second program's own.
 
-use cementoad_sys::{Clock, Details, ERROR, Line, RATE, REFERENCE, Request, SYNTHETIC};
+use cementoad_sys::{Clock, Details, ERROR, Line, RATE, REFERENCE, Request, SYNTHETIC, VERSION_3};
 
 /// The request in the second program's own type.
 pub fn wide_request(request: &Request) -> second::Request {
@@ -17,6 +17,21 @@ pub fn narrow_request(request: &second::Request) -> Request {
 /// The time at which the request's new line begins: its reference, if that is flagged, else now.
 pub fn point(request: &Request, now: i64) -> i64 {
     if request.word & REFERENCE != 0 { request.reference } else { now }
+}
+
+/// Whether the word has version 3.
+pub fn is_version_3(word: u64) -> bool {
+    word >> 58 == VERSION_3 >> 58
+}
+
+/// How many times, synthetic and reference, the word flags.
+pub fn times(word: u64) -> usize {
+    [SYNTHETIC, REFERENCE].iter().filter(|&flag| word & flag != 0).count()
+}
+
+/// The bit at which a slip of this word has what follows so many of its times.
+pub fn behind_times(word: u64, count: usize) -> usize {
+    16 + count * second::time_width(word)
 }
 
 /// The request with the arguments that it doesn't flag taken from another.

@@ -17,6 +17,10 @@ const SET: &[u8] = b"\x0A\0\0\0\0\0\0\0\x2E\xE0";
 const TRIM: &[u8] = b"\x08\x80\x7A\x20";
 /// A slip that flags nothing.
 const BARE: &[u8] = b"\x08\0";
+/// Version 3 slips that set a clock: to the first value that needs it, and, though version 2 would do, to the last that
+/// doesn't.
+const LATE: &[u8] = b"\x0E\0\x40\0\0\0\0\0\0\0";
+const NEEDLESS: &[u8] = b"\x0E\0\x3F\xFF\xFF\xFF\xFF\xFF\xFF\xFE";
 
 /// A call with its refusal's number, 0 where it is accepted, and with its whole answer where that is told.
 pub struct Step {
@@ -43,10 +47,10 @@ macro_rules! lists {
 
 pub fn fixed_lists() -> Lists {
     let clocks = [worked_cases(), creations(), readings(), requests_refused(), lines_refused(), orders(), effects()];
-    let remainders = [remainders_kept(), remainders_judged(), many_changes()];
+    let values = [sums_past_64_bits(), remainders_kept(), remainders_judged(), many_changes()];
     let read = [slip, single_slip, row].map(slips_read);
-    let slips = [ends_of_slips(), rows_to_their_end(), rows_that_stop(), slips_written(), each_bit()];
-    clocks.into_iter().chain(remainders).chain(read).chain(slips).flatten().collect()
+    let slips = [ends_of_slips(), rows_to_their_end(), rows_that_stop(), slips_written(), versions_of_slips()];
+    clocks.into_iter().chain(values).chain(read).chain(slips).chain([each_bit()]).flatten().collect()
 }
 
 fn answers(call: Call, answer: Answer) -> Step {
@@ -112,6 +116,11 @@ fn set(synthetic: i64) -> Request {
     Request { synthetic, ..word(VERSION_2 | SYNTHETIC) }
 }
 
+/// The request with a version 3 word.
+fn newer(request: Request) -> Request {
+    Request { word: request.word | VERSION_3, ..request }
+}
+
 fn rate(rate: i32) -> Request {
     Request { rate, ..word(VERSION_2 | RATE) }
 }
@@ -135,9 +144,9 @@ fn within(error: u64, request: Request) -> Request {
     Request { error, word: request.word | ERROR, ..request }
 }
 
-/// The request with its unflagged arguments outside their ranges.
+/// The request of version 2 with its unflagged arguments outside their ranges.
 fn junk(request: Request) -> Request {
-    or_else(&request, &Request { word: 0, synthetic: -1, reference: END + 1, rate: 1001, error: 7 })
+    or_else(&request, &Request { word: 0, synthetic: -1, reference: END, rate: 1001, error: 7 })
 }
 
 fn worked_cases() -> Lists {
@@ -157,7 +166,7 @@ fn worked_cases() -> Lists {
             Create(PLAIN, 0, 0), Update(with(-1001, set(1500)), 100) => 6, Update(with(-1000, set(1500)), 100);
         "case 8": Create(PLAIN, 1000, 0), Update(set(999), 0) => 13, Update(set(1000), 0);
         "case 9": Create(AUTO_START, 5, 4) => 17, Create(AUTO_START, 5, 5);
-        "case 10": Create(PLAIN, 0, 0), Update(set(END), 0), reads(0, END), Read(1) => 12;
+        "case 10": Create(PLAIN, 0, 0), Update(newer(set(END)), 0), reads(0, END), Read(1) => 12;
         "case 11": Create(MONOTONIC, 10, 0), Update(set(20), 0), reads(0, 20), Update(set(5), 0) => 13;
         "case 12": writes(set(1500), SET), writes(rate(-23), TRIM);
         "four arguments that differ":
@@ -173,13 +182,13 @@ fn worked_cases() -> Lists {
 fn creations() -> Lists {
     lists! {
         "create 1": Create(PLAIN, 0, i64::MIN) => 1, Create(PLAIN, 0, -1) => 1, Create(PLAIN, 0, 0),
-            Create(PLAIN, 0, END), Create(PLAIN, 0, END + 1) => 1, Create(PLAIN, 0, i64::MAX) => 1;
+            Create(PLAIN, 0, VERSION_2_END + 1), Create(PLAIN, 0, END);
         "create 16": Create(PLAIN, i64::MIN, 0) => 16, Create(PLAIN, -1, 0) => 16, Create(PLAIN, 0, 0),
-            Create(PLAIN, END, 0), Create(PLAIN, END + 1, 0) => 16, Create(PLAIN, i64::MAX, 0) => 16;
+            Create(PLAIN, VERSION_2_END + 1, 0), Create(PLAIN, END, 0);
         "create 17": Create(AUTO_START, 1, 0) => 17, Create(AUTO_START, 0, 0), Create(AUTO_START, END, END),
             Create(AUTO_START, END, END - 1) => 17, Create(PLAIN, END, END - 1);
         "create in order": Create(1, 0, -1) => 1, Create(CONTINUOUS | 1, 0, 0) => 3, Create(CONTINUOUS, -1, 0) => 15,
-            Create(AUTO_START, END + 1, 0) => 16, Create(AUTO_START, 1, -1) => 1;
+            Create(AUTO_START, 1, -1) => 1;
         "no clock": Create(1, 0, 0) => 3, Read(0) => 255, Details(0) => 255, Read(-1) => 255, is_started(false),
             Update(set(1), 0) => 255;
     }
@@ -187,16 +196,17 @@ fn creations() -> Lists {
 
 fn readings() -> Lists {
     lists! {
-        "read 1": Create(PLAIN, 7, 0), Read(-1) => 1, reads(0, 7), reads(END, 7), Read(END + 1) => 1,
-            Read(i64::MAX) => 1, is_started(false);
-        "details 1": Create(MONOTONIC, 7, 0), Details(-1) => 1, Details(0), Details(END), Details(END + 1) => 1;
+        "read 1": Create(PLAIN, 7, 0), Read(i64::MIN) => 1, Read(-1) => 1, reads(0, 7), reads(END, 7),
+            is_started(false);
+        "details 1": Create(MONOTONIC, 7, 0), Details(i64::MIN) => 1, Details(-1) => 1, Details(0), Details(END);
         "read and details 2": Create(PLAIN, 0, 10), Read(9) => 2, Details(9) => 2, Read(10), Details(10),
             Update(set(5), 20), Update(set(-1), 30) => 5, Read(19) => 2, Details(19) => 2, Read(20), Details(20),
             is_started(true);
         "the backstop END": Create(PLAIN, END, 0), reads(END, END);
-        "read 12 behind 2 and not in details": Create(PLAIN, 0, 0), Update(set(END), 0), Update(error(3), 10),
-            Read(5) => 2, Read(10) => 12, Details(10), Details(9) => 2, Read(END + 1) => 1;
-        "an automatic start to the end": Create(AUTO_START, 0, 0), reads(END, END), Read(END + 1) => 1;
+        "read 12 behind 2 and not in details": Create(PLAIN, 0, 0), Update(newer(set(END)), 0), Update(error(3), 10),
+            Read(5) => 2, Read(10) => 12, Details(10), Details(9) => 2;
+        "an automatic start to the end": Create(AUTO_START, 0, 0), reads(VERSION_2_END + 1, VERSION_2_END + 1),
+            reads(END, END);
         "read and details in order": Create(PLAIN, 0, 10), Read(-1) => 1, Details(-1) => 1;
     }
 }
@@ -204,18 +214,24 @@ fn readings() -> Lists {
 /// Rules 1 to 11 and 22, before any line is drawn.
 fn requests_refused() -> Lists {
     lists! {
-        "update 1": Create(PLAIN, 0, 0), Update(set(0), -1) => 1, Update(set(0), END + 1) => 1, Update(set(0), END),
-            Update(set(0), i64::MAX) => 1, Update(set(0), i64::MIN) => 1;
+        "update 1": Create(PLAIN, 0, 0), Update(set(0), -1) => 1, Update(set(0), i64::MIN) => 1, Update(set(0), END),
+            Update(set(0), -1) => 1;
         "update 2": Create(PLAIN, 0, 10), Update(set(0), 9) => 2, Update(set(0), 10), Update(error(1), 20),
             Update(set(0), 19) => 2, Update(set(0), 20);
         "update 4": Create(PLAIN, 0, 0), Update(junk(word(VERSION_2)), 0) => 4, Update(set(1), 0),
             Update(word(VERSION_2), 0) => 4, Update(error(0), 0);
         "update 5 synthetic": Create(PLAIN, 0, 0), Update(set(i64::MIN), 0) => 5, Update(set(-1), 0) => 5,
-            Update(set(END + 1), 0) => 5, Update(set(END), 0), Update(junk(set(0)), 0), Update(junk(rate(1)), 0),
-            Update(junk(error(1)), 0);
+            Update(set(VERSION_2_END + 1), 0) => 5, Update(set(END), 0) => 5, Update(set(VERSION_2_END), 0),
+            Update(junk(set(0)), 0), Update(junk(rate(1)), 0), Update(junk(error(1)), 0);
         "update 5 reference": Create(PLAIN, 0, 0), Update(at(-1, set(5)), 10) => 5,
-            Update(at(END + 1, set(END)), 10) => 5, Update(at(0, set(5)), 10), Update(at(END, set(END)), 10),
+            Update(at(VERSION_2_END + 1, set(VERSION_2_END)), 10) => 5, Update(at(END, set(5)), 10) => 5,
+            Update(at(0, set(5)), 10), Update(at(VERSION_2_END, set(VERSION_2_END)), 10),
             Update(at(-1, rate(5)), 10) => 5;
+        "update 5 of version 3": Create(PLAIN, 0, 0), Update(newer(set(i64::MIN)), 0) => 5,
+            Update(newer(set(-1)), 0) => 5, Update(newer(set(0)), 0), Update(newer(set(VERSION_2_END + 1)), 0),
+            Update(newer(set(END)), 0), Update(newer(at(-1, set(END))), 10) => 5,
+            Update(newer(at(VERSION_2_END + 1, set(END))), 10), Update(newer(at(END, set(END))), 10),
+            Update(newer(or_else(&error(1), &at(-1, set(-1)))), 10);
         "update 6": Create(PLAIN, 0, 0), Update(with(900, set(5)), 0), Update(with(1001, set(5)), 0) => 6,
             Update(rate(1000), 0), Update(rate(i32::MIN), 0) => 6, Update(rate(i32::MAX), 0) => 6,
             Create(PLAIN, 0, 0), Update(with(-900, set(5)), 0), Update(with(-1001, set(5)), 0) => 6,
@@ -248,18 +264,19 @@ fn requests_refused() -> Lists {
 
 /// Rules 12 to 14, for the new line.
 fn lines_refused() -> Lists {
+    let late = |synthetic| newer(set(synthetic));
     lists! {
         "update 12 S0 below 0": Create(PLAIN, 0, 0), Update(at(10, set(0)), 10), Update(at(9, rate(0)), 10) => 12,
             Update(at(10, rate(0)), 10);
-        "update 12 S0 above END": Create(PLAIN, 0, 0), Update(set(END - 1), 0), Update(at(2, rate(0)), 0) => 12,
+        "update 12 S0 above END": Create(PLAIN, 0, 0), Update(late(END - 1), 0), Update(at(2, rate(0)), 0) => 12,
             Update(at(1, rate(0)), 0);
-        "update 12 value": Create(PLAIN, 0, 0), Update(at(9, set(END)), 10) => 12, Update(at(10, set(END)), 10),
-            Update(at(11, set(END)), 10);
-        "update 12 only a new line": Create(PLAIN, 0, 0), Update(set(END), 0), Update(rate(0), 1) => 12,
-            Update(error(1), 1), Update(rate(0), 1) => 12, Update(set(END), 1);
+        "update 12 value": Create(PLAIN, 0, 0), Update(at(9, late(END)), 10) => 12, Update(at(10, late(END)), 10),
+            Update(at(11, late(END)), 10);
+        "update 12 only a new line": Create(PLAIN, 0, 0), Update(late(END), 0), Update(rate(0), 1) => 12,
+            Update(error(1), 1), Update(rate(0), 1) => 12, Update(late(END), 1);
         "update 12 a wide product": Create(PLAIN, 0, 0), Update(with(900, set(0)), 0),
             Update(at(0, rate(1000)), END) => 12, Create(PLAIN, 0, 0), Update(with(-900, set(0)), 0),
-            Update(at(0, rate(-1000)), END), reads(END, 2_303_537_166_204_480_257);
+            Update(at(0, rate(-1000)), END), reads(END, 9_214_148_664_817_921_031);
         "update 13 set": Create(PLAIN, 1000, 0), Update(at(11, set(1000)), 10) => 13, Update(at(9, set(999)), 10),
             Update(at(10, set(999)), 10) => 13, Update(at(10, set(1000)), 10);
         "update 13 rate": Create(PLAIN, 1000, 0), Update(set(1000), 0), Update(at(1000, rate(200)), 0) => 13,
@@ -267,15 +284,34 @@ fn lines_refused() -> Lists {
         "update 14 set": Create(MONOTONIC, 0, 0), Update(set(50), 100), Update(set(59), 110) => 14,
             Update(set(60), 110), Update(at(111, set(60)), 110) => 14, Update(at(109, set(59)), 110),
             Create(PLAIN, 0, 0), Update(set(50), 100), Update(set(0), 110), Create(MONOTONIC, 0, 0),
-            Update(set(END), 0), Update(set(END), 1) => 14;
+            Update(late(END), 0), Update(late(END), 1) => 14;
         "update 14 rate": Create(MONOTONIC | AUTO_START, 0, 0), Update(at(11, rate(1)), 10) => 14,
             Update(at(9, rate(-1)), 10) => 14, Update(at(11, rate(-1)), 10);
     }
 }
 
+/// Sums that would come out in the range if they wrapped: the value at END of the line from END at 0 with the rate 1000,
+/// which is 2^64 and 9,223,372,036,854,773 more; 2^64 itself, beside the last that a u64 holds; and the value at 0 of
+/// the line from 0 at END.
+fn sums_past_64_bits() -> Lists {
+    let fast = |reference, synthetic| newer(with(1000, at(reference, set(synthetic))));
+    lists! {
+        "read 12 past 64 bits": Create(PLAIN, 0, 0), Update(fast(0, END), 0), Read(END) => 12, Details(END),
+            Create(PLAIN, 0, 0), Update(fast(0, 9_214_148_664_817_921_034), 0), Read(END) => 12;
+        "update 12 a value past 64 bits": Create(PLAIN, 0, 0), Update(fast(0, END), END) => 12,
+            Update(fast(0, 9_214_148_664_817_921_033), END) => 12,
+            Update(fast(0, 9_214_148_664_817_921_034), END) => 12;
+        "update 12 S0 past 64 bits": Create(PLAIN, 0, 0), Update(fast(0, END), 0),
+            Update(newer(at(END, rate(1000))), 0) => 12, Create(PLAIN, 0, 0), Update(fast(END, 0), END),
+            Update(at(0, rate(1000)), END) => 12;
+        "update 13 past 64 bits": Create(PLAIN, 0, 0), Update(fast(END, 0), 0) => 13;
+        "update 14 past 64 bits": Create(MONOTONIC, 0, 0), Update(fast(0, END), 0), Update(newer(set(END)), END) => 14;
+    }
+}
+
 /// Calls to which two checks apply.
 fn orders() -> Lists {
-    let unversioned = Request { word: SYNTHETIC, ..set(-1) };
+    let (unversioned, last) = (Request { word: SYNTHETIC, ..set(-1) }, newer(set(END)));
     lists! {
         "update in order before the start": Create(PLAIN, 0, 10), Update(set(1), -1) => 1, Update(word(0), 9) => 2,
             Update(word(0), 10) => 3, Update(unversioned, 10) => 3, Update(word(VERSION_2), 10) => 4,
@@ -284,11 +320,11 @@ fn orders() -> Lists {
         "update in order on a continuous clock": Create(STEADY, 0, 0), Update(at(1, error(1)), 10) => 7,
             Update(at(1, rate(1)), 10) => 8, Update(set(5), 10), Update(at(10, set(20)), 10) => 9,
             Update(with(1, set(20)), 10) => 10, Update(at(1, error(1)), 10) => 7;
-        "11 before 12": Create(MONOTONIC, 0, 0), Update(set(5), 10), Update(at(9, with(0, set(END))), 10) => 11;
+        "11 before 12": Create(MONOTONIC, 0, 0), Update(set(5), 10), Update(at(9, with(0, last)), 10) => 11;
         "12 before 13": Create(PLAIN, 1000, 0), Update(set(1000), 2000), Update(at(0, rate(-200)), 2000) => 12;
         "6 and 11 before 22": Create(MONOTONIC | AUTO_START, 0, 0), Update(rate(1001), 10) => 6,
             Update(with(201, set(50)), 10) => 11;
-        "22 before 12": Create(PLAIN, 0, 0), Update(set(END), 0), Update(rate(200), 1) => 12,
+        "22 before 12": Create(PLAIN, 0, 0), Update(last, 0), Update(rate(200), 1) => 12,
             Update(rate(201), 1) => 22;
         "22 before 13": Create(PLAIN, 1000, 0), Update(set(1000), 0), Update(at(1000, rate(200)), 0) => 13,
             Update(at(1000, rate(201)), 0) => 22;
@@ -346,8 +382,8 @@ fn remainders_kept() -> Lists {
             tells(plain, 9, (9, 8, 999_999, 1), unknown, 3, 9), reads(9, 8), reads(10, 10), Update(at(8, rate(-1)), 9),
             tells(plain, 9, (8, 7, 999_998, -1), unknown, 4, 9), reads(9, 8);
         "a remainder behind a wide product": Create(PLAIN, 0, 0), Update(slow, 0), Update(rate(-1), 1),
-            reads(END, 2_305_840_703_370_684_737), Update(rate(0), END),
-            tells(plain, END, (END, 2_305_840_703_370_684_737, 306_049, 0), unknown, 4, END);
+            reads(END, 9_223_362_813_482_738_952), Update(rate(0), END),
+            tells(plain, END, (END, 9_223_362_813_482_738_952, 224_193, 0), unknown, 4, END);
         "a remainder behind an automatic start": Create(AUTO_START, 0, 5), Update(rate(1), 7), Update(rate(0), 8),
             tells((AUTO_START, 0), 8, (8, 8, 1, 0), unknown, 3, 8);
         "a value set clears the remainder": Create(PLAIN, 0, 0), Update(slow, 0), Update(rate(-1), 1),
@@ -368,7 +404,7 @@ fn remainders_judged() -> Lists {
             tells((PLAIN, 0), 9, (1, 0, 999_991, 1), unknown, 3, 9), Update(at(0, rate(1)), 9) => 12;
         "update 12 S0 at 0 by the remainder": Create(PLAIN, 0, 0), Update(slow, 0), Update(rate(-1), 1),
             Update(at(0, rate(-1)), 1), tells((PLAIN, 0), 1, (0, 0, 0, -1), unknown, 4, 1);
-        "update and read 12 END and a remainder": Create(PLAIN, 0, 0), Update(with(-1, set(END)), 0),
+        "update and read 12 END and a remainder": Create(PLAIN, 0, 0), Update(newer(with(-1, set(END))), 0),
             Update(rate(-1), 1), tells((PLAIN, 0), 1, (1, END, 999_999, -1), unknown, 3, 1), reads(1, END),
             Read(2) => 12, Update(rate(-1), 2) => 12;
         "update 13 just below the backstop": Create(PLAIN, 0, 0), Update(with(-1, at(1, set(0))), 0) => 13,
@@ -405,9 +441,21 @@ fn slips_read(read: fn(&[u8]) -> Call) -> Lists {
         "slip 6": read(b"\x08\x80\xFA\0"), read(b"\x08\x80\xFA\x20") => 6, read(b"\x08\x80\xFF\xE0") => 6,
             read(b"\x08\x80\0\0");
         "slip 19": read(b"\x08\x80\x7A\x21") => 19, read(b"\x08\x80\x7A\x30") => 19, read(TRIM);
-        "slip in order": read(b"\x0C") => 18, read(b"\x0A\x01") => 3, read(b"\x08\xC0\xFF\xE0") => 18,
+        "slip in order": read(b"\x10") => 18, read(b"\x0A\x01") => 3, read(b"\x08\xC0\xFF\xE0") => 18,
             read(b"\x08\x80\xFF\xE1") => 6, read(b"\x08\x80\xFF\xE1\0") => 6, read(b"\x08\x80\x7A\x21\0") => 19;
+        "slip 31": read(b"\x0C\0") => 31, read(b"\x0C\x80\x7A\x20") => 31, read(NEEDLESS) => 31, read(LATE),
+            read(&two_times(0x3F, 0x7F)) => 31, read(&two_times(0x3F, 0xFF)), read(&two_times(0x7F, 0x7F));
+        "slip 31 in order": read(b"\x0E\x01\x3F") => 3, read(&NEEDLESS[..9]) => 18, read(b"\x0C\x80\xFA\x20") => 6,
+            read(b"\x0C\x80\x7A\x21") => 19, read(&[&NEEDLESS[..9], b"\xFF"].concat()) => 19,
+            read(&[NEEDLESS, b"\0"].concat()) => 31;
     }
+}
+
+/// A version 3 slip of a value and a reference time, each 2^61 - 1, or 2^62 - 1 where its first byte says so: 7F and
+/// not 3F for the value; for the time, which begins a bit earlier, FF and not 7F.
+fn two_times(synthetic: u8, reference: u8) -> Vec<u8> {
+    let ones = [0xFF; 6];
+    [&[0x0F, 0, synthetic], &ones[..], &[0xFE, reference], &ones, &[0xFC]].concat()
 }
 
 /// No bytes at all, and bytes behind a slip.
@@ -422,11 +470,13 @@ fn ends_of_slips() -> Lists {
 }
 
 fn rows_to_their_end() -> Lists {
+    let late = newer(set(VERSION_2_END + 1));
     lists! {
         "row of no slips": gives(&[], &[], 0, 0);
         "row of one slip": gives(&[SET], &[set(1500)], 0, 0);
         "row of two slips": gives(&[SET, TRIM], &[set(1500), rate(-23)], 0, 0);
         "row of three slips": gives(&[TRIM, BARE, TRIM], &[rate(-23), word(VERSION_2), rate(-23)], 0, 0);
+        "row of both versions": gives(&[LATE, TRIM, LATE], &[late, rate(-23), late], 0, 0);
     }
 }
 
@@ -434,29 +484,78 @@ fn rows_that_stop() -> Lists {
     let (set, trim) = (set(1500), rate(-23));
     lists! {
         "row cut short": gives(&[SET, &TRIM[..3]], &[set], 18, 3), gives(&[SET, TRIM, b"\x08"], &[set, trim], 18, 1);
-        "row with a refused slip": gives(&[SET, b"\x0C\0", TRIM], &[set], 3, 6),
+        "row with a refused slip": gives(&[SET, b"\x10\0", TRIM], &[set], 3, 6),
             gives(&[SET, b"\x0B\xC0", TRIM], &[set], 18, 6), gives(&[TRIM, b"\x08\x80\xFA\x20", TRIM], &[trim], 6, 8),
-            gives(&[TRIM, b"\x08\x80\x7A\x21", TRIM], &[trim], 19, 8), gives(&[b"\x0C\0", TRIM], &[], 3, 6);
+            gives(&[TRIM, b"\x08\x80\x7A\x21", TRIM], &[trim], 19, 8), gives(&[b"\x10\0", TRIM], &[], 3, 6),
+            gives(&[TRIM, NEEDLESS, TRIM], &[trim], 31, 14), gives(&[b"\x0C\0", TRIM], &[], 31, 6);
     }
 }
 
 fn slips_written() -> Lists {
     let all = Request { error: u64::MAX, ..word(VERSION_2 | SYNTHETIC | REFERENCE | RATE | ERROR) };
+    let late = newer(Request { reference: END, ..all });
     let unversioned = Request { word: SYNTHETIC, ..set(-1) };
     lists! {
-        "write 3": write(word(0), 30) => 3, write(word(3 << 58), 30) => 3, write(word(VERSION_2 | 1), 30) => 3,
+        "write 3": write(word(0), 30) => 3, write(word(1 << 58), 30) => 3, write(word(4 << 58), 30) => 3,
+            write(word(VERSION_2 | 1), 30) => 3, write(word(VERSION_3 | 1), 30) => 3,
             write(word(VERSION_2 | 1 << 53), 30) => 3, write(junk(word(VERSION_2)), 30);
-        "write 5": write(set(-1), 30) => 5, write(set(END + 1), 30) => 5, write(junk(set(0)), 30),
-            write(junk(set(END)), 30), write(at(-1, rate(1)), 30) => 5, write(at(END + 1, rate(1)), 30) => 5,
-            write(junk(at(0, rate(1))), 30), write(junk(at(END, word(VERSION_2))), 30);
+        "write 5": write(set(-1), 30) => 5, write(set(VERSION_2_END + 1), 30) => 5, write(junk(set(0)), 30),
+            write(junk(set(VERSION_2_END)), 30), write(at(-1, rate(1)), 30) => 5,
+            write(at(VERSION_2_END + 1, rate(1)), 30) => 5, write(junk(at(0, rate(1))), 30),
+            write(junk(at(VERSION_2_END, word(VERSION_2))), 30);
+        "write 5 of version 3": write(newer(set(-1)), 30) => 5, write(newer(set(END)), 30),
+            write(newer(at(i64::MIN, rate(1))), 30) => 5, write(newer(at(END, rate(1))), 30);
         "write 6": write(rate(1001), 30) => 6, write(rate(-1001), 30) => 6, write(junk(rate(1000)), 30),
             write(junk(rate(-1000)), 30);
         "write 21": write(word(VERSION_2), 1) => 21, write(word(VERSION_2), 2), write(set(1500), 0) => 21,
-            write(set(1500), 9) => 21, write(set(1500), 10), write(set(1500), 11), write(all, LONGEST_SLIP - 1) => 21,
-            write(all, LONGEST_SLIP), write(all, LONGEST_SLIP + 13);
+            write(set(1500), 9) => 21, write(set(1500), 10), write(set(1500), 11), write(all, 26) => 21, write(all, 27),
+            write(newer(all), 26) => 21, write(newer(all), 27), write(late, 27) => 21, write(late, LONGEST_SLIP),
+            write(late, LONGEST_SLIP + 13);
         "write in order": write(unversioned, 30) => 3, write(with(1001, set(-1)), 30) => 5, write(rate(1001), 0) => 6,
             write(set(-1), 0) => 5;
     }
+}
+
+/// Which version a slip is written in, whichever the word has, and what it then reads as (02, R-11).
+fn versions_of_slips() -> Lists {
+    let (last, late) = (VERSION_2_END, VERSION_2_END + 1);
+    let four = Request { word: VERSION_3 | (15 * ERROR), synthetic: late + 1, reference: 2, rate: 3, error: 4 };
+    let full = b"\x0F\xC0\x40\0\0\0\0\0\0\x02\0\0\0\0\0\0\0\x09\xF5\x80\0\0\0\0\0\0\x02\0";
+    let ones = b"\x0A\0\xFF\xFF\xFF\xFF\xFF\xFF\xFF\xF8";
+    let late_reference = b"\x0F\0\x3F\xFF\xFF\xFF\xFF\xFF\xFF\xFE\x80\0\0\0\0\0\0\0";
+    let late_synthetic = b"\x0F\0\x40\0\0\0\0\0\0\0\x7F\xFF\xFF\xFF\xFF\xFF\xFF\xFC";
+    let unflagged = Request { synthetic: END, reference: END, ..newer(rate(-23)) };
+    lists! {
+        "four arguments that differ, in version 3": writes(four, full), takes(slip(full), four, 28),
+            takes(single_slip(full), four, 28);
+        "version 3 where it is needed": writes(newer(set(late)), LATE), takes(slip(LATE), newer(set(late)), 10),
+            writes(newer(set(END)), b"\x0E\0\xFF\xFF\xFF\xFF\xFF\xFF\xFF\xFE"),
+            writes(newer(at(late, set(last))), late_reference),
+            takes(slip(late_reference), newer(at(late, set(last))), 18),
+            writes(newer(at(last, set(late))), late_synthetic),
+            takes(slip(late_synthetic), newer(at(last, set(late))), 18);
+        "version 2 where it will do": writes(newer(set(1500)), SET), writes(newer(rate(-23)), TRIM),
+            writes(newer(word(VERSION_2)), BARE), writes(unflagged, TRIM), writes(set(last), ones),
+            writes(newer(set(last)), ones), takes(slip(ones), set(last), 10);
+    }
+}
+
+/// The lengths of every set of flags, with times that fit version 2 and with times that don't, and 0 where writing gets
+/// 3, 5 or 6.
+fn slip_lengths() -> impl Iterator<Item = Step> {
+    let told = |request, length| answers(SlipLength(request), Answer::Length(length));
+    let in_version_2 = [2, 10, 4, 12, 10, 18, 11, 19, 10, 18, 11, 19, 18, 26, 19, 27];
+    let in_version_3 = [2, 10, 4, 12, 10, 18, 12, 20, 10, 18, 12, 20, 18, 26, 20, 28];
+    let measured = in_version_2.into_iter().zip(in_version_3).zip(0..).flat_map(move |((shorter, longer), flags)| {
+        let fits = word(VERSION_2 | flags << 54);
+        let late = Request { synthetic: END, reference: END, ..fits };
+        let of_late = if flags < 4 { shorter } else { 0 };
+        let known = [told(fits, shorter), told(newer(fits), shorter), told(newer(late), longer), told(late, of_late)];
+        known.into_iter().chain([told(word(flags << 54), 0), told(word(fits.word | 1), 0)])
+    });
+    let refused =
+        [set(-1), newer(at(-1, set(1500))), rate(1001), with(-1001, set(END))].map(|request| told(request, 0));
+    measured.chain(refused).chain([told(junk(set(1500)), 10)])
 }
 
 /// Every creation word; every version of an update word and of a slip's header, and every bit there that must be zero;
@@ -467,23 +566,30 @@ fn each_bit() -> Lists {
         64 | 96 => step(Create(word, 0, 0), 15),
         _ => step(Create(word, 0, 0), if WORDS.contains(&word) { 0 } else { 3 }),
     });
-    let good = |version| if version == 2 { 0 } else { 3 };
-    let versions = (0..64).map(|version| step(Update(word(version << 58 | ERROR), 10), good(version)));
-    let zero_bits = (0..54).map(|bit| step(Update(word(VERSION_2 | ERROR | 1 << bit), 10), 3));
+    let versions = (0..64).map(|version| {
+        let refusal = if version == 2 || version == 3 { 0 } else { 3 };
+        step(Update(word(version << 58 | ERROR), 10), refusal)
+    });
+    let zero_bits = [VERSION_2, VERSION_3]
+        .into_iter()
+        .flat_map(|version| (0..54).map(move |bit| step(Update(word(version | ERROR | 1 << bit), 10), 3)));
     let updated = [Create(AUTO_START, 0, 0).into()].into_iter().chain(versions).chain(zero_bits);
     let headers = [slip, single_slip].into_iter().flat_map(|read| {
-        let versions = (0..64).map(move |version| step(read(&[(version << 2) as u8, 0]), good(version)));
-        versions.chain((0..6).map(move |bit| step(read(&[8, 1 << bit]), 3)))
-    });
-    let lengths = [2, 10, 4, 12, 10, 18, 11, 19, 10, 18, 11, 19, 18, 26, 19, 27].into_iter().zip(0..);
-    let measured = lengths.flat_map(|(length, flags)| {
-        let words = [VERSION_2 | flags << 54, flags << 54, flags << 54 | (ERROR - 1)];
-        words.map(|word| answers(SlipLength(word), Answer::Length(length)))
+        let versions = (0..64).map(move |version: u8| {
+            let refusal = match version {
+                2 => 0,
+                3 => 31, // it flags no time
+                _ => 3,
+            };
+            step(read(&[version << 2, 0]), refusal)
+        });
+        let zero_bits = (0..6).flat_map(move |bit| [8, 12].map(|version| step(read(&[version, 1 << bit]), 3)));
+        versions.chain(zero_bits)
     });
     vec![
         ("create 3 and 15", created.collect()),
         ("update 3", updated.collect()),
         ("slip 3", headers.collect()),
-        ("slip lengths", measured.collect()),
+        ("slip lengths", slip_lengths().collect()),
     ]
 }

@@ -17,7 +17,7 @@ pub fn answer(call: &Call, clock: Clock) -> Answer {
         Call::ReadSingleSlip(ref bytes) => Answer::Received(sys::read_single_slip(bytes)),
         Call::ReadRow(ref bytes) => read_row(bytes),
         Call::WriteSlip(request, ref buffer) => write_slip(request, buffer),
-        Call::SlipLength(word) => Answer::Length(sys::cementoad_slip_length(word)),
+        Call::SlipLength(request) => Answer::Length(sys::cementoad_slip_length(request)),
     }
 }
 

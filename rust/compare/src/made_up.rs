@@ -17,15 +17,14 @@ pub fn clock(rng: &mut Rng) -> Clock {
 /// A clock before its start.
 fn resting(rng: &mut Rng) -> Clock {
     let word = rng.pick(&WORDS) & !AUTO_START;
-    let (backstop, latest) = (rng.inside(), rng.inside());
+    let (backstop, latest) = (rng.inside(END), rng.inside(END));
     Clock { word, backstop, latest, error: UNKNOWN_ERROR, generation: 1, ..Clock::default() }
 }
 
 /// A started clock. Its line begins before the latest time, at it or behind it.
 fn running(rng: &mut Rng) -> Clock {
-    let (word, latest, rate) = (rng.pick(&WORDS), rng.inside(), rng.sound_rate());
-    let reference = (latest + rng.pick(&[-1, 0, 1]) * rng.up_to_bits(60)).clamp(0, END);
-    let mut line = Line { reference, synthetic: rng.inside(), remainder: rng.sound_remainder(), rate };
+    let word = rng.pick(&WORDS);
+    let (latest, mut line) = if rng.percent(35) { far(rng) } else { near(rng) };
     if value(&line, latest) < 0 {
         line.reference = latest;
     }
@@ -36,10 +35,25 @@ fn running(rng: &mut Rng) -> Clock {
     Clock { line, backstop, latest, error: rng.error(), generation, word, started: 1 }
 }
 
+/// A latest time, and a line for it.
+fn near(rng: &mut Rng) -> (i64, Line) {
+    let latest = rng.inside(END);
+    let reference = latest.saturating_add(rng.pick(&[-1, 0, 1]) * rng.up_to_bits(62)).max(0);
+    let (synthetic, remainder, rate) = (rng.inside(END), rng.sound_remainder(), rng.sound_rate());
+    (latest, Line { reference, synthetic, remainder, rate })
+}
+
+/// The same near END, with the widest sums: of a quick line from the last value at 0, or from 0 at the last time.
+fn far(rng: &mut Rng) -> (i64, Line) {
+    let (latest, reference, rate) = (END - rng.up_to_bits(40), rng.pick(&[0, END, END]), rng.sound_rate().abs());
+    (latest, Line { reference, synthetic: END - reference, remainder: rng.sound_remainder(), rate })
+}
+
 /// The clock with one field at an edge, just inside or just outside.
 fn at_edge(rng: &mut Rng, clock: Clock) -> Clock {
     let Clock { line, backstop, latest, word, .. } = clock;
-    let end = rng.pick(&[-1, 0, 1, END - 1, END, END + 1]);
+    let end = rng.pick(&[-1, -1, 0, 1, END - 1, END]);
+    let reference = rng.pick(&[0, line.reference]);
     let one: i32 = rng.pick(&[1, -1]);
     let remainder = rng.pick(&[999_999, 1_000_000, u32::MAX]);
     let at_latest = clamp(value(&line, latest));
@@ -51,7 +65,7 @@ fn at_edge(rng: &mut Rng, clock: Clock) -> Clock {
         4 => Clock { backstop: end, ..clock },
         5 => Clock { word: word | AUTO_START, latest: backstop.saturating_sub(rng.pick(&[0, 1])), ..clock },
         6 | 12 => Clock { line: Line { reference: end, ..line }, backstop: 0, ..clock },
-        7 | 13 => Clock { line: Line { synthetic: end, ..line }, backstop: 0, ..clock },
+        7 | 13 => Clock { line: Line { reference, synthetic: end, ..line }, backstop: 0, ..clock },
         8 => Clock { line: Line { remainder, ..line }, backstop: 0, ..clock },
         9 => Clock { line: Line { rate: one * rng.pick(&[1000, 1001]), ..line }, backstop: 0, ..clock },
         10 => Clock { backstop: at_latest.saturating_add(rng.pick(&[-1, 0, 1])), ..clock },

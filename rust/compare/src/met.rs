@@ -4,10 +4,10 @@ use std::collections::BTreeMap;
 use std::ops::Range;
 
 use cementoad_sys::*;
-use second::{MILLION, new_line, read_row, slip_length};
+use second::{MILLION, called_for, new_line, read_row, slip_length};
 
 use crate::call::Call;
-use crate::convert::{exact, point, value, wide_clock, wide_request};
+use crate::convert::{behind_times, exact, is_version_3, point, times, value, wide_clock, wide_request};
 use crate::is_clock::{PARTS, failing};
 
 /// How often each is to be met.
@@ -21,14 +21,17 @@ const KINDS: [(&str, &[u8]); 11] = [
     ("details", &[255, 1, 2]),
     ("update", &[255, 1, 2, 3, 4, 5, 6, 7, 8, 9, 10, 11, 22, 12, 13, 14]),
     ("started", &[]),
-    ("read slip", &[3, 18, 6, 19]),
-    ("read single slip", &[3, 18, 6, 19, 20]),
-    ("read row", &[3, 18, 6, 19]),
+    ("read slip", &[3, 18, 6, 19, 31]),
+    ("read single slip", &[3, 18, 6, 19, 31, 20]),
+    ("read row", &[3, 18, 6, 19, 31]),
     ("write slip", &[3, 5, 6, 21]),
     ("slip length", &[]),
     ("made up", &[]),
 ];
 const MADE_UP: usize = 10;
+
+/// Values from here on begin again at 0 where a sum is kept in a u64.
+const WRAPPED: i128 = 1 << 64;
 
 /// What was met: by kind and refusal; by kind, rule and what the rule compares, one below, equal and one above; and by
 /// kind and what else there is.
@@ -95,14 +98,12 @@ impl Met {
                 self.line(clock, &request, now);
                 self.remainder(clock, &request, now);
             }
-            Call::WriteSlip(request, ref buffer) => {
-                self.arguments(&request);
-                self.compare(21, "size and length", buffer.len() as i64, slip_length(request.word) as i64);
-            }
+            Call::WriteSlip(request, ref buffer) => self.writing(&request, buffer.len() as i64),
             Call::ReadSlip(ref bytes) | Call::ReadSingleSlip(ref bytes) => self.slip(bytes),
             Call::ReadRow(ref bytes) => self.slips(read_row(bytes).1.len()),
             Call::Take(clock) => self.made_up(&clock),
-            Call::Started | Call::SlipLength(_) => {}
+            Call::SlipLength(request) => self.length(&request),
+            Call::Started => {}
         }
     }
 
@@ -122,10 +123,10 @@ impl Met {
         }
     }
 
-    /// A time or value with both ends of the range.
-    fn range(&mut self, rule: u8, what: [&'static str; 2], time: impl Into<i128> + Copy) {
+    /// A time or value that is handed in, at both ends of the range. An i64 holds none above END.
+    fn range(&mut self, rule: u8, what: [&'static str; 2], time: i64) {
         self.compare(rule, what[0], time, 0);
-        self.compare(rule, what[1], time, END);
+        self.row(what[1], time == END && self.reaches(rule));
     }
 
     fn row(&mut self, what: &'static str, is_met: bool) {
@@ -133,15 +134,15 @@ impl Met {
     }
 
     fn creation(&mut self, word: u8, backstop: i64, now: i64) {
-        self.range(1, ["now and 0", "now and END"], now);
-        self.range(16, ["backstop and 0", "backstop and END"], backstop);
+        self.range(1, ["now and 0", "now at END"], now);
+        self.range(16, ["backstop and 0", "backstop at END"], backstop);
         if word & AUTO_START != 0 {
             self.compare(17, "backstop and now", backstop, now);
         }
     }
 
     fn now(&mut self, clock: &Clock, now: i64) {
-        self.range(1, ["now and 0", "now and END"], now);
+        self.range(1, ["now and 0", "now at END"], now);
         self.compare(2, "now and latest", now, clock.latest);
     }
 
@@ -151,6 +152,7 @@ impl Met {
             let line = &clock.line;
             let (shown, early) = (value(line, now), now < line.reference);
             self.compare(12, "value and END", shown, END);
+            self.row("a value past a u64", shown >= WRAPPED);
             self.row("before the reference", early);
             self.row("before the reference of a line with a remainder", early && line.remainder != 0);
             self.row("one more by the remainder", shown > value(&Line { remainder: 0, ..*line }, now));
@@ -164,11 +166,16 @@ impl Met {
     }
 
     fn arguments(&mut self, request: &Request) {
+        let newer = is_version_3(request.word);
         if request.word & SYNTHETIC != 0 {
-            self.range(5, ["synthetic and 0", "synthetic and END"], request.synthetic);
+            self.range(5, ["synthetic and 0", "synthetic at END"], request.synthetic);
+            let what = ["synthetic and the end of version 2", "synthetic of version 3 and that end"];
+            self.compare(5, what[usize::from(newer)], request.synthetic, VERSION_2_END);
         }
         if request.word & REFERENCE != 0 {
-            self.range(5, ["reference and 0", "reference and END"], request.reference);
+            self.range(5, ["reference and 0", "reference at END"], request.reference);
+            let what = ["reference and the end of version 2", "reference of version 3 and that end"];
+            self.compare(5, what[usize::from(newer)], request.reference, VERSION_2_END);
         }
         if request.word & RATE != 0 {
             self.compare(6, "rate and the least", request.rate, -MAX_RATE);
@@ -198,13 +205,19 @@ impl Met {
         let new = new_line(&wide_clock(clock), &wide_request(request), now.into());
         if let Some(line) = new {
             let new_value = second::value(&line, now.into());
-            self.range(12, ["S0 and 0", "S0 and END"], line.synthetic);
+            self.compare(12, "S0 and 0", line.synthetic, 0);
+            self.compare(12, "S0 and END", line.synthetic, END);
             self.compare(12, "value and END", new_value, END);
+            self.row("S0 past a u64", line.synthetic >= WRAPPED);
+            self.row("S0 below an i64", line.synthetic < i64::MIN.into());
+            self.row("a value past a u64", new_value >= WRAPPED);
+            self.row("a value below an i64", self.reaches(13) && new_value < i64::MIN.into());
             self.compare(13, "value and backstop", new_value, clock.backstop);
             if clock.word & MONOTONIC != 0 && clock.started == 1 {
                 let old_value = value(&clock.line, now);
                 let less = second::exact(&line, now.into()) < exact(&clock.line, now);
                 self.compare(14, "new and old value", new_value, old_value);
+                self.row("an old value past a u64", self.reaches(14) && old_value >= WRAPPED);
                 self.row("an equal value, less in millionths", taken && less && new_value == old_value);
             }
             self.row("before the new reference", i128::from(now) < line.reference);
@@ -237,17 +250,63 @@ impl Met {
         self.row("a remainder kept by the error bound", taken && flags == 0);
     }
 
-    /// A slip with a header of version 2: its bytes beside its length, its rate field beside the widest.
+    /// A slip to be written: the buffer's size beside its length.
+    fn writing(&mut self, request: &Request, size: i64) {
+        self.arguments(request);
+        let length = slip_length(&wide_request(request));
+        self.compare(21, "size and length", size, length as i64);
+        if length == LONGEST_SLIP {
+            self.compare(21, "size and the longest length", size, length as i64);
+        }
+        self.version(request, self.refusal == NO_REFUSAL);
+    }
+
+    fn length(&mut self, request: &Request) {
+        let is_written = slip_length(&wide_request(request)) != 0;
+        self.row("of a request that is not written", !is_written);
+        self.version(request, is_written);
+    }
+
+    /// Which version the request's slip has, if it is written.
+    fn version(&mut self, request: &Request, is_written: bool) {
+        let past = [(SYNTHETIC, request.synthetic), (REFERENCE, request.reference)]
+            .map(|(flag, time)| (request.word & flag != 0).then_some(time > VERSION_2_END));
+        let (newer, needed) = (is_written && is_version_3(request.word), past.contains(&Some(true)));
+        self.row("of version 3, as version 3", newer && needed);
+        self.row("of version 3, as version 2", newer && !needed);
+        self.row("one of two times past the end of version 2", newer && needed && past.contains(&Some(false)));
+    }
+
+    /// A slip with a header of a known version: its bytes beside its length, its rate field beside the widest, and of
+    /// version 3 the later of its times beside the end of version 2.
     fn slip(&mut self, bytes: &[u8]) {
         let number = |at: Range<usize>| at.fold(0, |n, at| n << 1 | i64::from(bytes[at / 8] >> (7 - at % 8) & 1));
         if bytes.len() < 2 || self.refusal == 3 {
             return;
         }
         let word = (number(0..16) as u64) << 48;
-        self.compare(18, "bytes and length", bytes.len() as i64, slip_length(word) as i64);
-        if self.refusal != 18 && word & RATE != 0 {
-            let start = 16 + 61 * (usize::from(word & SYNTHETIC != 0) + usize::from(word & REFERENCE != 0));
+        self.compare(18, "bytes and length", bytes.len() as i64, called_for(word) as i64);
+        if self.refusal == 18 {
+            return;
+        }
+        let behind = |count| behind_times(word, count);
+        if word & RATE != 0 {
+            let start = behind(times(word));
             self.compare(6, "rate field and 2000", number(start..start + 11), 2000);
+        }
+        if is_version_3(word) {
+            let times: Vec<i64> = (0..times(word)).map(|nth| number(behind(nth)..behind(nth + 1))).collect();
+            self.needless(&times);
+        }
+    }
+
+    /// Refusal 31 of a version 3 slip with these times.
+    fn needless(&mut self, times: &[i64]) {
+        self.row("no time in version 3", times.is_empty() && self.reaches(31));
+        if let (Some(&least), Some(&latest)) = (times.iter().min(), times.iter().max()) {
+            self.compare(31, "the later time and the end of version 2", latest, VERSION_2_END);
+            let mixed = least <= VERSION_2_END && latest > VERSION_2_END;
+            self.row("one of two times past the end of version 2", mixed && self.reaches(31));
         }
     }
 
@@ -268,11 +327,11 @@ impl Met {
         for (part, (name, _)) in PARTS.iter().enumerate() {
             self.row(name, failing == [part]);
         }
-        self.range(0, ["latest and 0", "latest and END"], clock.latest);
-        self.range(0, ["backstop and 0", "backstop and END"], clock.backstop);
+        self.range(0, ["latest and 0", "latest at END"], clock.latest);
+        self.range(0, ["backstop and 0", "backstop at END"], clock.backstop);
         if clock.started == 1 {
-            self.range(0, ["reference and 0", "reference and END"], clock.line.reference);
-            self.range(0, ["synthetic and 0", "synthetic and END"], clock.line.synthetic);
+            self.range(0, ["reference and 0", "reference at END"], clock.line.reference);
+            self.range(0, ["synthetic and 0", "synthetic at END"], clock.line.synthetic);
             self.compare(0, "remainder and 999,999", clock.line.remainder, 999_999);
             self.compare(0, "rate and the least", clock.line.rate, -MAX_RATE);
             self.compare(0, "rate and the widest", clock.line.rate, MAX_RATE);

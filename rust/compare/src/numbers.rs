@@ -1,6 +1,6 @@
 //! Numbers that lists are made of: edges, and numbers that look random.
 
-use cementoad_sys::END;
+use cementoad_sys::{END, VERSION_2_END};
 
 /// The creation words that there are.
 pub const WORDS: [u8; 6] = [0, 32, 128, 160, 192, 224];
@@ -58,14 +58,20 @@ impl Rng {
 
     /// A time or value at an edge, in the range or not.
     pub fn edge(&mut self) -> i64 {
-        let (any, near) = (self.any() as i64, END - self.up_to_bits(40));
-        self.pick(&[any, any, near, near, i64::MIN, i64::MAX, i32::MAX.into(), -1, 0, 1, END - 1, END, END + 1])
+        let end = self.end();
+        let (any, near, past) = (self.any() as i64, end - self.up_to_bits(40), end.saturating_add(1));
+        self.pick(&[any, any, near, near, i64::MIN, i32::MAX.into(), -1, 0, 1, end - 1, end, past])
     }
 
-    /// A time or value in 0..END.
-    pub fn inside(&mut self) -> i64 {
-        let (any, low) = ((self.any() >> 3) as i64, self.up_to_bits(60));
-        self.pick(&[0, 1, END, END - 1, any, any, any, low, low, low, low, low, low, low, low])
+    /// The end of one version.
+    pub fn end(&mut self) -> i64 {
+        self.pick(&[VERSION_2_END, END])
+    }
+
+    /// A time or value in 0..end, where the end of one version is meant, whose bits are all ones.
+    pub fn inside(&mut self, end: i64) -> i64 {
+        let (any, low) = (self.any() as i64 & end, self.up_to_bits(60));
+        self.pick(&[0, 1, end, end - 1, any, any, any, low, low, low, low, low, low, low, low])
     }
 
     /// A rate, most within its range.

@@ -65,6 +65,7 @@ impl<'a> Run<'a> {
             (Call::WriteSlip(request, before), Answer::Written(written, after)) => {
                 check_read_back(request, before, after, written.length)
             }
+            (Call::SlipLength(request), Answer::Length(length)) => check_length(*request, *length),
             _ => Ok(()),
         }
     }
@@ -90,9 +91,10 @@ impl<'a> Run<'a> {
         if *answer == alone { Ok(()) } else { Err(format!("demand 1: more than a refusal: {answer:?}")) }
     }
 
-    /// What is promised of a reading also on a clock that is made up: it is not below the backstop, and in the range.
+    /// What is promised of a reading also on a clock that is made up: it is not below the backstop, and in the range,
+    /// above which an i64 holds nothing.
     fn read(&mut self, now: i64, value: i64) -> Result<(), String> {
-        if value < self.clock.backstop.max(0) || value > END {
+        if value < self.clock.backstop.max(0) {
             return Err(format!("the reading {value} is below the backstop or outside 0..END"));
         }
         self.witness.as_mut().map_or(Ok(()), |witness| witness.reads(now, value))
@@ -116,7 +118,7 @@ impl<'a> Run<'a> {
 /// unflagged arguments are 0.
 fn check_rewritten(mut bytes: &[u8], requests: &[Request]) -> Result<(), String> {
     for request in requests {
-        let length = cementoad_slip_length(request.word).min(bytes.len());
+        let length = cementoad_slip_length(*request).min(bytes.len());
         let (slip, behind) = bytes.split_at(length);
         let rewritten = library::write_slip(*request, &vec![0xAA; length]);
         let alike = rewritten == Answer::Written(Written { length, refusal: NO_REFUSAL }, slip.to_vec());
@@ -137,15 +139,27 @@ fn check_row(bytes: &[u8], requests: &[Request], refusal: u8, rest: usize) -> Re
     if ends || stops { check_rewritten(used, requests) } else { Err(format!("R-5: {refusal} told, {rest:?} left")) }
 }
 
-/// Demand 2: a written slip reads back as the same request, by its word and its flagged arguments, alone and with other
-/// bytes behind it. It has the length that is told of it, and nothing behind it is touched.
+/// Demand 2: a written slip reads back as the same request, by its word but for the version (02, R-11) and its flagged
+/// arguments, alone and with other bytes behind it. It has the length that is told of it, and nothing behind it is
+/// touched.
 fn check_read_back(asked: &Request, before: &[u8], after: &[u8], length: usize) -> Result<(), String> {
     let slip = after.get(..length).unwrap_or(after);
     let read = [read_single_slip(slip), read_slip(&[slip, &[0xAA; 3]].concat())];
-    let request = or_else(asked, &Request::default());
+    let request = or_else(&read[0].request, &Request::default());
+    let same = cementoad::Request::from(request).is_same_request(&(*asked).into());
     let alike = read == [Received { request, length, refusal: NO_REFUSAL }; 2];
-    if alike && length == cementoad_slip_length(asked.word) && after.get(length..) == before.get(length..) {
+    if same && alike && length == cementoad_slip_length(*asked) && after.get(length..) == before.get(length..) {
         return Ok(());
     }
     Err(format!("demand 2: the slip reads back otherwise: {read:?}"))
+}
+
+/// The length that is told of a request's slip is the one that writing answers, given room.
+fn check_length(request: Request, length: usize) -> Result<(), String> {
+    let written = write_slip(request, &mut [0; LONGEST_SLIP]);
+    if written.length == length {
+        Ok(())
+    } else {
+        Err(format!("{length} bytes are told, but writing answers {written:?}"))
+    }
 }

@@ -46,7 +46,7 @@ pub fn answer(call: &Call, clock: Clock) -> Answer {
             let (refusal, length) = second::write_slip(&wide_request(request), &mut buffer);
             Answer::Written(Written { length, refusal }, buffer)
         }
-        (&Call::SlipLength(word), _) => Answer::Length(second::slip_length(word)),
+        (Call::SlipLength(request), _) => Answer::Length(second::slip_length(&wide_request(request))),
     }
 }
 

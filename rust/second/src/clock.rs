@@ -1,7 +1,9 @@
 //! Numbers and words, the line, creation, reading, details and update.
 
-/// The last permitted time and value (01, The clock we sell).
-pub const END: i128 = (1 << 61) - 1;
+/// The last permitted time and value (02, R-11).
+pub const END: i128 = (1 << 63) - 1;
+/// The last one that a version 2 word and slip may carry: the end before R-11 of 02.
+pub const VERSION_2_END: i128 = (1 << 61) - 1;
 /// The widest rate adjustment either way, in parts per million.
 pub const MAX_RATE: i128 = 1000;
 /// The widest step of a running clock's rate either way (02, R-9).
@@ -14,8 +16,10 @@ pub const MONOTONIC: u8 = 128;
 pub const CONTINUOUS: u8 = 64;
 pub const AUTO_START: u8 = 32;
 
-// The update word, from its top: six bits of version, four flags, 54 bits that must be zero.
-pub const VERSION: u64 = 2;
+// The update word, from its top: six bits of version, 2 or 3 (02, R-11), four flags, 54 bits that must be zero.
+pub const VERSION_2: u64 = 2 << 58;
+pub const VERSION_3: u64 = 3 << 58;
+pub const VERSION: u64 = 63 << 58;
 pub const SYNTHETIC: u64 = 1 << 57;
 pub const REFERENCE: u64 = 1 << 56;
 pub const RATE: u64 = 1 << 55;
@@ -100,9 +104,14 @@ pub fn value(line: &Line, t: i128) -> i128 {
     exact(line, t).div_euclid(MILLION)
 }
 
-/// Whether a time or value lies outside 0..END, both ends permitted.
+/// Whether a time or value lies outside 0..end, both ends permitted.
+fn beyond(time: i128, end: i128) -> bool {
+    !(0..=end).contains(&time)
+}
+
+/// Whether a time or value lies outside 0..END.
 fn outside(time: i128) -> bool {
-    !(0..=END).contains(&time)
+    beyond(time, END)
 }
 
 /// The number of the first row that applies; 0 for none.
@@ -182,14 +191,21 @@ pub fn new_line(clock: &Clock, request: &Request, now: i128) -> Option<Line> {
 
 /// Rule 3: a version that is not known, or a bit set that must be zero.
 pub(crate) fn bad_word(word: u64) -> bool {
-    word >> 58 != VERSION || word & ZERO_BITS != 0
+    let known = [VERSION_2, VERSION_3].contains(&(word & VERSION));
+    !known || word & ZERO_BITS != 0
 }
 
-/// Rule 5: a flagged synthetic value or reference time outside the range.
-pub(crate) fn bad_time(request: &Request) -> bool {
-    let bad_synthetic = request.has(SYNTHETIC) && outside(i128::from(request.synthetic));
-    let bad_reference = request.has(REFERENCE) && outside(i128::from(request.reference));
+/// Whether a flagged synthetic value or reference time lies outside 0..end.
+pub(crate) fn flags_outside(request: &Request, end: i128) -> bool {
+    let bad_synthetic = request.has(SYNTHETIC) && beyond(i128::from(request.synthetic), end);
+    let bad_reference = request.has(REFERENCE) && beyond(i128::from(request.reference), end);
     bad_synthetic || bad_reference
+}
+
+/// Rule 5: a flagged synthetic value or reference time outside the range, which ends sooner for a version 2 word.
+pub(crate) fn bad_time(request: &Request) -> bool {
+    let end = if request.word & VERSION == VERSION_2 { VERSION_2_END } else { END };
+    flags_outside(request, end)
 }
 
 /// Rule 6: a flagged rate that is too slow or too fast.

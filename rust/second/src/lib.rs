@@ -11,4 +11,4 @@ mod slip;
 
 pub use clock::{Clock, Details, Line, MILLION, Request, create, details, exact, new_line, read, update, value};
 pub use ideal::{Ideal, ideal_after, ideal_at_creation};
-pub use slip::{read_row, read_single_slip, read_slip, slip_length, write_slip};
+pub use slip::{called_for, packed, read_row, read_single_slip, read_slip, slip_length, time_width, write_slip};

@@ -1,21 +1,45 @@
-//! The update slip, read and written (01, The update slip; of slips in a row 02, R-5).
+//! The update slip, read and written (01, The update slip; of slips in a row 02, R-5; of both versions R-11).
 
-use crate::clock::{ERROR, MAX_RATE, RATE, REFERENCE, Request, SYNTHETIC, bad_rate, bad_time, bad_word, first};
+use crate::clock::{
+    ERROR, MAX_RATE, RATE, REFERENCE, Request, SYNTHETIC, VERSION, VERSION_2, VERSION_2_END, VERSION_3, bad_rate,
+    bad_time, bad_word, first, flags_outside,
+};
 
 /// The bits of the header, the top of the update word.
 const HEADER: usize = 16;
-/// The fields in the order of the slip, each with its flag and its bits.
-const FIELDS: [(u64, usize); 4] = [(SYNTHETIC, 61), (REFERENCE, 61), (RATE, 11), (ERROR, 64)];
 
-/// The whole bytes of a slip with this word's flags, whatever else the word has.
-pub fn slip_length(word: u64) -> usize {
+/// The bits of a synthetic value or a reference time in a slip that has this word's version.
+pub fn time_width(word: u64) -> usize {
+    if word & VERSION == VERSION_3 { 63 } else { 61 }
+}
+
+/// The fields in the order of the slip, each with its flag and its bits.
+fn fields(word: u64) -> [(u64, usize); 4] {
+    let time = time_width(word);
+    [(SYNTHETIC, time), (REFERENCE, time), (RATE, 11), (ERROR, 64)]
+}
+
+/// The whole bytes that a slip's header calls for, by its version and its flags.
+pub fn called_for(word: u64) -> usize {
     let mut bits = HEADER;
-    for (flag, width) in FIELDS {
+    for (flag, width) in fields(word) {
         if word & flag != 0 {
             bits += width;
         }
     }
     bits.div_ceil(8)
+}
+
+/// The word as a slip has it: version 2 where that holds what is flagged, whichever version the request's word has.
+fn slip_word(request: &Request) -> u64 {
+    let version = if flags_outside(request, VERSION_2_END) { VERSION_3 } else { VERSION_2 };
+    version | request.word & !VERSION
+}
+
+/// The whole bytes of the request's slip; 0 where writing it is refused whatever the buffer is.
+pub fn slip_length(request: &Request) -> usize {
+    let refused = bad_word(request.word) || bad_time(request) || bad_rate(request);
+    if refused { 0 } else { called_for(slip_word(request)) }
 }
 
 /// The lent bytes and a place in them, in bits.
@@ -49,18 +73,22 @@ pub fn read_slip(bytes: &[u8]) -> (u8, Request, &[u8]) {
     if bad_word(word) {
         return (3, zeros, bytes);
     }
-    let length = slip_length(word);
+    let length = called_for(word);
     if bytes.len() < length {
         return (18, zeros, bytes);
     }
     let mut request = Request { word, ..zeros };
-    for (flag, width) in FIELDS {
+    for (flag, width) in fields(word) {
         if request.has(flag) {
             set_field(&mut request, flag, reader.take(width));
         }
     }
     let padding = length * 8 - reader.place;
-    let refusal = first(&[(6, i128::from(request.rate) + MAX_RATE > 2000), (19, reader.take(padding) != 0)]);
+    let refusal = first(&[
+        (6, i128::from(request.rate) + MAX_RATE > 2000),
+        (19, reader.take(padding) != 0),
+        (31, word != slip_word(&request)),
+    ]);
     if refusal == 0 { (0, request, &bytes[length..]) } else { (refusal, zeros, bytes) }
 }
 
@@ -89,7 +117,8 @@ pub fn read_row(bytes: &[u8]) -> (u8, Vec<Request>, &[u8]) {
 
 /// Writes a slip into the buffer's first bytes and gives its length. Refused, it writes nothing and gives 0.
 pub fn write_slip(request: &Request, buffer: &mut [u8]) -> (u8, usize) {
-    let length = slip_length(request.word);
+    let slip = Request { word: slip_word(request), ..*request };
+    let length = called_for(slip.word);
     let refusal = first(&[
         (3, bad_word(request.word)),
         (5, bad_time(request)),
@@ -99,18 +128,23 @@ pub fn write_slip(request: &Request, buffer: &mut [u8]) -> (u8, usize) {
     if refusal != 0 {
         return (refusal, 0);
     }
+    for (byte, packed) in buffer.iter_mut().zip(packed(&slip)) {
+        *byte = packed;
+    }
+    (0, length)
+}
+
+/// The request packed in the version that its word has, whether or not a slip has that version.
+pub fn packed(request: &Request) -> Vec<u8> {
     let mut bits = Vec::new();
     push(&mut bits, HEADER, request.word >> 48);
-    for (flag, width) in FIELDS {
+    for (flag, width) in fields(request.word) {
         if request.has(flag) {
             push(&mut bits, width, field(request, flag));
         }
     }
-    bits.resize(length * 8, false);
-    for (byte, eight) in buffer.iter_mut().zip(bits.chunks(8)) {
-        *byte = eight.iter().fold(0, |byte, bit| (byte << 1) | u8::from(*bit));
-    }
-    (0, length)
+    bits.resize(called_for(request.word) * 8, false);
+    bits.chunks(8).map(|eight| eight.iter().fold(0, |byte, bit| (byte << 1) | u8::from(*bit))).collect()
 }
 
 /// Adds a number's last so many bits, the most significant first.

@@ -1,12 +1,13 @@
 use mathlib.Core.Path.{_≡_, ap, _∙_}
 use Rattle.clock.specs.Update.{flagged}
-use Rattle.slip.specs.Layout.{bare, widths}
+use Rattle.clock.specs.declared.Request.{Request}
+use Rattle.slip.specs.Layout.{bare, timeWidth, widthsBy}
 use borrow.Author.Needs.{needs}
 use Rattle.slip.proofs.widths_of.Statement.{statement}
 use Rattle.slip.proofs.widths_of.Tie as tie
 
 returns : tie.Need-returns
-unfolding widths
+unfolding widthsBy
 returns c =
     let rate = c .before in
     let reference = rate .before in
@@ -21,7 +22,7 @@ returns c =
       reference .flagged-width2 .ensures,
       synthetic .flagged-width .ensures,
       told,
-      time .time-width .ensures,
+      time .time-width .ensures ∙ ap (λ (u : Request). timeWidth (u .word)) (asked .bare .ensures),
     )
 
 pub widths-of-spec : {M : Type 1} → statement M

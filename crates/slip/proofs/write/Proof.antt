@@ -1,11 +1,18 @@
-use mathlib.Core.Path.{_≡_, refl, sym, _∙_}
-use lib.ListN.{length}
+use mathlib.Core.Path.{_≡_, sym, ap, _∙_, subst⁻¹}
+use mathlib.Core.Bool.{not}
+use mathlib.Core.List.{_++_}
+use Prim.Native.Nat.{_≤_}
+use lib.Dec.{T}
+use lib.ListN.{length, drop}
 use Rattle.tables.specs.Tables.{first}
 use Rattle.tables.proofs.Tables.{refused-by}
-use Rattle.slip.specs.Layout.{bare}
-use Rattle.slip.specs.Writing.{writingTable, filled, untouched, writing}
+use Rattle.clock.specs.Update.{valuesOutside, rateTooWide}
+use Rattle.clock.specs.declared.Request.{Request}
+use Rattle.slip.specs.Layout.{bare, slipLength}
+use Rattle.slip.specs.Writing.{inSlip, bytesFor, writingTable, filled, untouched, writing}
 use Rattle.slip.proofs.Layouts.{length-alike}
 use Rattle.slip.proofs.Writings.{taken, writing-taken}
+use Rattle.slip.proofs.Versions.{slip-writable}
 use borrow.Author.Needs.{needs}
 use Rattle.slip.proofs.write.Statement.{statement}
 use Rattle.slip.proofs.write.Tie as tie
@@ -21,21 +28,27 @@ passed c = sym (c .before .writing-refusal .ensures) ∙ c .if1 .taken
 
 write-slip-requires : tie.Need-write-slip-requires
 write-slip-requires c κs =
-    let test = c .before in
+    let slip = c .before in
+    let test = slip .before in
     let s = start (test .before) .args in
     let t = taken (s .request) (length (s .buffer .now)) (passed test) in
-    (t .0 .values, t .0 .rate, t .1)
+    let w = slip-writable (s .request) (t .0) in
+    subst⁻¹ (λ (v : Request). T (not (valuesOutside v)) × T (not (rateTooWide v)) × (slipLength v ≤ length (s .buffer .now)))
+    (slip .in-slip .ensures) (w .values, w .rate, t .1)
 
 returns : tie.Need-returns
 returns c =
     let known = c .before in
     let buffer = known .before in
-    let slip = buffer .before in
-    let lent = slip .before in
-    let test = lent .before in
+    let written = buffer .before in
+    let lent = written .before in
+    let slip = lent .before in
+    let test = slip .before in
     let s = start (test .before) .args in
+    let is = slip .in-slip .ensures in
     writing-taken (s .request) (s .buffer .now) _ _ _ (passed test) (test .if1 .taken)
-    (c .slip-length .ensures ∙ length-alike (bare (s .request .word)) (s .request) refl) (slip .write-slip .ensures)
+    (c .length-of .ensures ∙ length-alike (bare (slip .in-slip .result .word)) (inSlip (s .request)) (ap (λ (v : Request). v .word) is))
+    (written .write-slip .ensures ∙ ap (λ (v : Request). bytesFor v ++ drop (slipLength v) (s .buffer .now)) is)
 
 returns-2 : tie.Need-returns-2
 unfolding writing
@@ -49,6 +62,7 @@ pub write-spec : {M : Type 1} → statement M
 write-spec =
     tie.close
     (tie.spec
+    (λ c κs. search needs)
     (λ c κs. search needs)
     write-slip-requires
     (λ c κs. search needs)

@@ -6,7 +6,7 @@ use Rattle.fields.specs.Bits.{row}
 use Rattle.fields.specs.Field.{over}
 use Rattle.fields.specs.Record.{packed, AllInside}
 use Rattle.clock.specs.declared.Request.{Request}
-use Rattle.slip.specs.Layout.{bare, widths, layout}
+use Rattle.slip.specs.Layout.{bare, widthsBy, layoutBy, layout}
 use Rattle.slip.specs.Writing.{valuesOf}
 use Rattle.slip.specs.declared.Sizes.{Sizes}
 use Rattle.slip.proofs.Layouts.{layout-inside, sizes-alike}
@@ -17,7 +17,7 @@ use Rattle.slip.proofs.write_slip.Tie as tie
 
 -- there is a value for each field
 six : (u : Request) → length (valuesOf u) ≡ length (layout u)
-unfolding valuesOf layout widths
+unfolding valuesOf layoutBy widthsBy
 six u = refl
 
 -- ---- the steps back from where both lists are lent

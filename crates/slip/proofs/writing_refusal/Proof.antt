@@ -1,92 +1,59 @@
-use mathlib.Core.Path.{_≡_, refl, sym, _∙_, subst}
-use mathlib.Core.Bool.{false}
+use mathlib.Core.Path.{_≡_, sym, ap, _∙_, subst}
+use mathlib.Core.Bool.{Bool}
+use mathlib.Core.List.{[], _∷_}
 use Prim.Native.Nat.{ℕ, _≤_, _<_}
 use borrow.Author.Tests.{lt-ltb, le-ltb}
-use Rattle.clock.specs.Update.{wordWrong, valuesOutside, rateTooWide}
+use Rattle.tables.specs.Tables.{_when_, first}
+use Rattle.tables.proofs.Tables.{first-passed, first-refused}
+use Rattle.clock.specs.declared.Request.{Request}
 use Rattle.slip.specs.Layout.{bare, slipLength}
-use Rattle.slip.specs.Writing.{writingTable}
+use Rattle.slip.specs.Writing.{inSlip, askedTable, writingTable}
 use Rattle.slip.proofs.Layouts.{length-alike}
+use lib.Dec.{ltb}
 use borrow.Author.Needs.{needs}
 use Rattle.slip.proofs.writing_refusal.Statement.{statement}
 use Rattle.slip.proofs.writing_refusal.Tie as tie
 
--- ---- the steps back, from each test that did not apply to the one before
+-- ---- where the request passes, the room decides
 
-abbrev start : tie.Else1 → tie.Start
+abbrev start : tie.After-length-of → tie.Start
 start c =
-    let test = c .before in
-    test .before
+    let slip = c .before in
+    let passes = slip .before in
+    let asked = passes .before in
+    asked .before
 
-abbrev known : tie.Else2 → tie.Else1
-known c =
-    let test = c .before in
-    test .before
+module _ (c : tie.After-length-of) where
+  abbrev u : Request
+  u = start c .args .request
 
-abbrev inside : tie.Else3 → tie.Else2
-inside c =
-    let test = c .before in
-    test .before
+  abbrev size : ℕ
+  size = start c .args .size
 
--- ---- what they say
+  length : c .length-of .result ≡ slipLength (inSlip u)
+  length = c .length-of .ensures ∙ length-alike (bare (c .before .in-slip .result .word)) (inSlip u) (ap (λ (v : Request). v .word) (c .before .in-slip .ensures))
 
-word : (c : tie.Else1) → wordWrong (start c .args .request) ≡ false
-word c = sym (c .before .word-wrong .ensures) ∙ c .if1 .left
+  by-room : (short : Bool) → ltb size (slipLength (inSlip u)) ≡ short → first (21 when short ∷ []) ≡ first (writingTable u size)
+  unfolding askedTable writingTable
+  by-room short e =
+      ap (λ (b : Bool). first (21 when b ∷ [])) (sym e)
+      ∙ sym (first-passed (askedTable u) (21 when ltb size (slipLength (inSlip u)) ∷ []) tt (sym (c .before .before .before .asked-refusal .ensures) ∙ c .before .before .if1 .left))
 
-values : (c : tie.Else2) → valuesOutside (start (known c) .args .request) ≡ false
-values c = sym (c .before .values-outside .ensures) ∙ c .if2 .left
-
-rate : (c : tie.Else3) → rateTooWide (start (known (inside c)) .args .request) ≡ false
-rate c = sym (c .before .rate-too-wide .ensures) ∙ c .if3 .left
-
-length : (c : tie.After-slip-length) → c .slip-length .result ≡ slipLength (start (known (inside (c .before))) .args .request)
-length c = let u = start (known (inside (c .before))) .args .request in c .slip-length .ensures ∙ length-alike (bare (u .word)) u refl
-
--- ---- the first row that applies
+-- ---- the needs
 
 returns : tie.Need-returns
 unfolding writingTable
-returns c = simp (sym (c .before .word-wrong .ensures) ∙ c .if1 .taken)
+returns c =
+    let asked = c .before in
+    let s = asked .before .args in
+    asked .asked-refusal .ensures
+    ∙ sym (first-refused (askedTable (s .request)) (21 when ltb (s .size) (slipLength (inSlip (s .request))) ∷ []) (λ z. c .if1 .taken (asked .asked-refusal .ensures ∙ z)))
 
 returns-2 : tie.Need-returns-2
-unfolding writingTable
-returns-2 c =
-    let test = c .before in
-    simp (word (test .before), sym (test .values-outside .ensures) ∙ c .if2 .taken)
+returns-2 c = by-room (c .before) _ (lt-ltb (size (c .before)) (slipLength (inSlip (u (c .before)))) (subst (λ (n : ℕ). size (c .before) < n) (length (c .before)) (c .if2 .taken)))
 
 returns-3 : tie.Need-returns-3
-unfolding writingTable
-returns-3 c =
-    let test = c .before in
-    simp (word (known (test .before)), values (test .before), sym (test .rate-too-wide .ensures) ∙ c .if3 .taken)
-
-returns-4 : tie.Need-returns-4
-unfolding writingTable
-returns-4 c =
-    let test = c .before in
-    let e = test .before in
-    let s = start (known (inside e)) .args in
-    simp (word (known (inside e)), values (inside e), rate e, lt-ltb (s .size) (slipLength (s .request)) (subst (λ (n : ℕ). s .size < n) (length test) (c .if4 .taken)))
-
--- or none
-
-returns-5 : tie.Need-returns-5
-unfolding writingTable
-returns-5 c =
-    let test = c .before in
-    let e = test .before in
-    let s = start (known (inside e)) .args in
-    simp (word (known (inside e)), values (inside e), rate e, le-ltb (s .size) (slipLength (s .request)) (subst (λ (n : ℕ). n ≤ s .size) (length test) (c .if4 .left)))
+returns-3 c = by-room (c .before) _ (le-ltb (size (c .before)) (slipLength (inSlip (u (c .before)))) (subst (λ (n : ℕ). n ≤ size (c .before)) (length (c .before)) (c .if2 .left)))
 
 pub writing-refusal-spec : {M : Type 1} → statement M
-writing-refusal-spec =
-    tie.close
-    (tie.spec
-    (λ c κs. search needs)
-    returns
-    (λ c κs. search needs)
-    returns-2
-    (λ c κs. search needs)
-    returns-3
-    (λ c κs. search needs)
-    returns-4
-    returns-5)
+writing-refusal-spec = tie.close (tie.spec (λ c κs. search needs) returns (λ c κs. search needs) (λ c κs. search needs) returns-2 returns-3)

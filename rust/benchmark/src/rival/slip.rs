@@ -1,22 +1,46 @@
 //! The rival's slips (01, 'The update slip'): packed fields, most significant bit first, gathered by whole bytes.
 
-use cementoad_sys::{ERROR, RATE, REFERENCE, Request, SYNTHETIC};
+use cementoad_sys::{ERROR, RATE, REFERENCE, Request, SYNTHETIC, VERSION_2, VERSION_3};
 
-use super::{Asked, answer, refuse, wrong_word};
+use super::{Asked, VERSION_2_END, answer, is_version_2, refuse, wrong_word};
 
 const HEADER_BITS: usize = 16;
-/// The fields behind the header in their order, each with its flag and its bits.
-const FIELDS: [(u64, usize); 4] = [(SYNTHETIC, 61), (REFERENCE, 61), (RATE, 11), (ERROR, 64)];
+
+/// The fields behind the header of this word in their order, each with its flag and its bits.
+fn fields(word: u64) -> [(u64, usize); 4] {
+    let time = if is_version_2(word) { 61 } else { 63 };
+    [(SYNTHETIC, time), (REFERENCE, time), (RATE, 11), (ERROR, 64)]
+}
 
 /// The bits of a slip with this word, without its padding.
 fn slip_bits(word: u64) -> usize {
-    let flagged = FIELDS.iter().filter(|(flag, _)| word & flag != 0);
+    let flagged = fields(word).into_iter().filter(|(flag, _)| word & flag != 0);
     HEADER_BITS + flagged.map(|(_, bits)| bits).sum::<usize>()
 }
 
+/// The word as the slip of a request has it: version 2 wherever that holds the flagged times (02, R-11).
+fn slip_word(word: u64, asked: &Asked) -> u64 {
+    let version = if asked.is_outside(VERSION_2_END) { VERSION_3 } else { VERSION_2 };
+    version | word & !VERSION_3
+}
+
+/// The word of the request's slip, or refusal 3, 5 or 6.
+fn word_written(request: &Request) -> Result<u64, u8> {
+    let asked = Asked::of(request);
+    refuse(3, wrong_word(request.word))?;
+    refuse(5, asked.value_outside(request.word))?;
+    refuse(6, asked.rate_outside())?;
+    Ok(slip_word(request.word, &asked))
+}
+
 /// The whole bytes of a slip with this word.
-pub fn slip_length(word: u64) -> usize {
+fn whole_bytes(word: u64) -> usize {
     slip_bits(word).div_ceil(8)
+}
+
+/// The whole bytes of the request's slip, or 0.
+pub fn slip_length(request: &Request) -> usize {
+    word_written(request).map_or(0, whole_bytes)
 }
 
 /// The request of the slip on the front of the bytes, and how many of them it used, or zeros (02, R-5).
@@ -38,15 +62,15 @@ fn request_received(bytes: &[u8]) -> Result<(Request, usize), u8> {
     refuse(18, bytes.len() < 2)?;
     let word = bits.take(HEADER_BITS) << 48;
     refuse(3, wrong_word(word))?;
-    let length = slip_length(word);
+    let length = whole_bytes(word);
     refuse(18, bytes.len() < length)?;
-    let mut fields = [0; 4];
-    for (field, (flag, width)) in fields.iter_mut().zip(FIELDS) {
+    let mut values = [0; 4];
+    for (value, (flag, width)) in values.iter_mut().zip(fields(word)) {
         if word & flag != 0 {
-            *field = bits.take(width);
+            *value = bits.take(width);
         }
     }
-    let [synthetic, reference, rate, error] = fields;
+    let [synthetic, reference, rate, error] = values;
     let padding = bits.take(8 * length - slip_bits(word));
     refuse(6, rate > 2000)?;
     refuse(19, padding != 0)?;
@@ -57,6 +81,7 @@ fn request_received(bytes: &[u8]) -> Result<(Request, usize), u8> {
         rate: if word & RATE != 0 { rate as i32 - 1000 } else { 0 },
         error,
     };
+    refuse(31, word != slip_word(word, &Asked::of(&request)))?;
     Ok((request, length))
 }
 
@@ -66,20 +91,17 @@ pub fn write_slip(request: &Request, buffer: &mut [u8]) -> (u8, usize) {
 }
 
 fn slip_written(request: &Request, buffer: &mut [u8]) -> Result<usize, u8> {
-    let asked = Asked::of(request);
-    let length = slip_length(request.word);
-    refuse(3, wrong_word(request.word))?;
-    refuse(5, asked.value_outside())?;
-    refuse(6, asked.rate_outside())?;
+    let word = word_written(request)?;
+    let length = whole_bytes(word);
     refuse(21, buffer.len() < length)?;
     buffer[..length].fill(0);
     let mut bits = BitWriter { bytes: buffer, place: 0 };
-    bits.put(HEADER_BITS, request.word >> 48);
+    bits.put(HEADER_BITS, word >> 48);
     let rate = (i128::from(request.rate) + 1000) as u64;
-    let fields = [request.synthetic as u64, request.reference as u64, rate, request.error];
-    for (field, (flag, width)) in fields.into_iter().zip(FIELDS) {
-        if request.word & flag != 0 {
-            bits.put(width, field);
+    let values = [request.synthetic as u64, request.reference as u64, rate, request.error];
+    for (value, (flag, width)) in values.into_iter().zip(fields(word)) {
+        if word & flag != 0 {
+            bits.put(width, value);
         }
     }
     Ok(length)
