@@ -1,7 +1,7 @@
 -- The reader before R-11 beside ours: both are instances of one definition, and differ in version 3 alone.
 use mathlib.Core.Path.{_≡_, refl, sym, ap, ap₂, _∙_, subst}
 use mathlib.Core.Bool.{Bool, true, false, not, cond, _&&_, _||_}
-use mathlib.Core.List.{List, [], _∷_, _++_, append-nil}
+use mathlib.Core.List.{List, [], _∷_, _++_}
 use Prim.Native.Nat.{ℕ, _+_, _%_, _^_, _≤_, _<_}
 use native.Mathlib.Nat.{suc-ne-zero, zero-add, add-assoc}
 use native.Mathlib.Omega.{arith}
@@ -14,8 +14,8 @@ use Rattle.tables.proofs.Tests.{by-cases, is-true, is-false, fails-second}
 use Rattle.tables.proofs.Tables.{passed}
 use Rattle.clock.specs.Update.{version, isVersion3, wrongUnless}
 use Rattle.clock.specs.declared.Request.{Request}
-use Rattle.slip.specs.Layout.{slipLength, fitsVersion2, headerLength}
-use Rattle.slip.specs.Reading.{Edition, present, headed, valuesBy, headerTableBy, fieldsTable, frontTableBy, taken, refusedBy, readingBy, readingFront, strictly, readingSingle}
+use Rattle.slip.specs.Layout.{fitsVersion2, headerLength}
+use Rattle.slip.specs.Reading.{Edition, present, headed, valuesBy, headerTableBy, fieldsTable, frontTableBy, refusedBy, readingBy, readingFront, strictly, readingSingle}
 use Rattle.slip.specs.Writing.{inSlip, slipOf}
 use Rattle.slip.specs.Row.{RowRead, stoppedBy, ahead, rowAfter, readingRow}
 use Rattle.slip.specs.declared.Received.{Received}
@@ -28,7 +28,7 @@ use Rattle.round_trips.specs.OldReader.{before, oldFront, oldSingle, say
 use Rattle.round_trips.specs.RoundTrips.{Sized}
 use Rattle.round_trips.proofs.Fitting.{length-bytes}
 use Rattle.round_trips.proofs.Taken.{written-writable}
-use Rattle.round_trips.proofs.Returning.{kept, slip-front}
+use Rattle.round_trips.proofs.Returning.{slip-alone}
 
 -- ---- one slip
 
@@ -101,11 +101,9 @@ written-says u w s =
     some : headerLength ≤ length (slipOf u)
     some = omega (arith, length-bytes (inSlip u), length-low (inSlip u))
 
-    front : readingFront (slipOf u) ≡ taken (kept (inSlip u)) (slipLength (inSlip u))
-    front = ap readingFront (sym (append-nil (slipOf u))) ∙ slip-front u w s []
-
     header : word (slipOf u) ≡ inSlip u .word
     header =
+        let front = slip-alone u w s in
         ap (λ (r : Received). r .request .word)
         (sym (front-received present (slipOf u) (ap (λ (r : Received). r .refusal) front)) ∙ front)
 

@@ -17,7 +17,7 @@ use Rattle.clock.specs.Clock.{Permitted}
 use Rattle.clock.specs.Numbers.{END2}
 use Rattle.clock.specs.Update.{isVersion3, endOf, hasSynthetic, hasReference, hasRate, hasError, SameArguments, SameRequest}
 use Rattle.clock.specs.declared.Request.{Request}
-use Rattle.clock.proofs.Requests.{synthetic-inside, reference-inside, rate-permitted, flag-alike, same-beyond, same-wide}
+use Rattle.clock.proofs.Requests.{synthetic-inside, reference-inside, rate-permitted, same-through, same-beyond, same-wide}
 use Rattle.fields.specs.Bits.{row}
 use Rattle.fields.specs.Field.{field}
 use Rattle.fields.specs.Record.{fields}
@@ -32,7 +32,7 @@ use Rattle.slip.proofs.Layouts.{length-low, length-alike, layout-alike}
 use Rattle.slip.proofs.Rates.{natural-back}
 use Rattle.round_trips.proofs.Arguments.{rate-back}
 use Rattle.slip.proofs.Writings.{Writable}
-use Rattle.slip.proofs.Versions.{version-is-known, slip-version, slip-below, slip-writable, slip-needed}
+use Rattle.slip.proofs.Versions.{version-is-known, slip-version, slip-below, slip-kept, slip-writable, slip-needed}
 use Rattle.round_trips.proofs.Fitting.{wrong-alike, header-says, rate-fits, valuesOf-fit, length-bytes, row-bytes}
 
 -- the same request, its arguments 0 where they aren't flagged
@@ -63,21 +63,13 @@ kept-zero u = record {
 
 -- kept as its slip has it, it is still the same request
 pub kept-same : (u : Request) → Writable u → SameRequest u (kept (inSlip u))
-unfolding inSlip
 kept-same u w =
     let slip = inSlip u in
-    let k = kept-arguments slip in
-    let below = slip-below u in
     record {
       known = version-is-known u (w .word);
       otherKnown = version-is-known slip (slip-writable u w .word);
-      flags = sym below;
-      arguments = record {
-        synthetic = λ t. k .synthetic (subst T (sym (flag-alike 57 0 (slip .word) (u .word) below)) t);
-        reference = λ t. k .reference (subst T (sym (flag-alike 56 1 (slip .word) (u .word) below)) t);
-        rate = λ t. k .rate (subst T (sym (flag-alike 55 2 (slip .word) (u .word) below)) t);
-        error = λ t. k .error (subst T (sym (flag-alike 54 3 (slip .word) (u .word) below)) t);
-      };
+      flags = sym (slip-below u);
+      arguments = same-through u slip (kept slip) (sym (slip-below u)) (slip-kept u) (kept-arguments slip);
     }
 
 pub kept-writable : (u : Request) → Writable u → Writable (kept u)
@@ -185,11 +177,13 @@ unfolding inSlip
 slip-front u w s rest = front-read (inSlip u) (slip-writable u w) (slip-needed u) s rest
 
 -- and alone
+pub slip-alone : (u : Request) → Writable u → Sized u → readingFront (slipOf u) ≡ taken (kept (inSlip u)) (slipLength (inSlip u))
+slip-alone u w s = ap readingFront (sym (append-nil (slipOf u))) ∙ slip-front u w s []
+
 pub slip-read : (u : Request) → Writable u → Sized u → readingSingle (slipOf u) ≡ taken (kept (inSlip u)) (slipLength (inSlip u))
 unfolding readingSingle
 slip-read u w s =
     let size = slipLength (inSlip u) in
     let r : Received = taken (kept (inSlip u)) size in
-    let e : readingFront (slipOf u) ≡ r = ap readingFront (sym (append-nil (slipOf u))) ∙ slip-front u w s [] in
-    ap₂ (λ (x : Received) (n : ℕ). strictly x n) e (length-bytes (inSlip u))
+    ap₂ (λ (x : Received) (n : ℕ). strictly x n) (slip-alone u w s) (length-bytes (inSlip u))
     ∙ ap (λ (b : Bool). cond b (refusedBy 20) r) (le-ltb size size (omega arith))

@@ -1,17 +1,16 @@
 -- The round trips of slips, proved over the definitions alone.
 use mathlib.Core.Path.{_≡_, refl, sym, ap, _∙_, subst}
 use mathlib.Core.List.{List}
-use Prim.Native.Nat.{ℕ, _%_, _^_, _≤_, _<_}
+use Prim.Native.Nat.{ℕ, _≤_, _<_}
 use native.Mathlib.Nat.{not-suc-le-zero}
 use native.Mathlib.Omega.{arith}
-use lib.Dec.{T}
 use lib.ListN.{length, take}
 use Rattle.tables.specs.Tables.{Row, answer}
 use Rattle.tables.proofs.Tables.{answered, by-answer}
 use Rattle.tables.proofs.Tests.{is-false}
 use Rattle.clock.specs.Update.{valuesOutside, updating, SameRequest}
 use Rattle.clock.specs.declared.Request.{Request}
-use Rattle.clock.proofs.Requests.{flag-alike}
+use Rattle.clock.proofs.Requests.{same-through, same-back}
 use Rattle.demands.proofs.Unflagged.{ignores-version}
 use Rattle.slip.specs.Layout.{widthsBy, lengthBy, slipLength}
 use Rattle.slip.specs.Reading.{headed, readingFront, readingSingle}
@@ -107,19 +106,12 @@ rewritten bytes buffer hb accepted h =
 
 -- requests that are the same as one are the same as each other
 joined : (u v w : Request) → SameRequest u w → SameRequest v w → SameRequest u v
-joined u v w p q =
-    let e : u .word % 2 ^ 58 ≡ v .word % 2 ^ 58 = p .flags ∙ sym (q .flags) in
-    record {
-      known = p .known;
-      otherKnown = q .known;
-      flags = e;
-      arguments = record {
-        synthetic = λ t. p .arguments .synthetic t ∙ sym (q .arguments .synthetic (subst T (flag-alike 57 0 (u .word) (v .word) e) t));
-        reference = λ t. p .arguments .reference t ∙ sym (q .arguments .reference (subst T (flag-alike 56 1 (u .word) (v .word) e) t));
-        rate = λ t. p .arguments .rate t ∙ sym (q .arguments .rate (subst T (flag-alike 55 2 (u .word) (v .word) e) t));
-        error = λ t. p .arguments .error t ∙ sym (q .arguments .error (subst T (flag-alike 54 3 (u .word) (v .word) e) t));
-      };
-    }
+joined u v w p q = record {
+  known = p .known;
+  otherKnown = q .known;
+  flags = p .flags ∙ sym (q .flags);
+  arguments = same-through u w v (p .flags) (p .arguments) (same-back v w (q .flags) (q .arguments));
+}
 
 pub never-shared : NeverShared
 never-shared u v left right su sv au av e =

@@ -1,5 +1,5 @@
 -- A request as its slip has it: its flags, its version, and that the writer takes it where it takes the request.
-use mathlib.Core.Path.{_≡_, refl, sym, ap, ap₂, _∙_, subst}
+use mathlib.Core.Path.{_≡_, refl, sym, ap, ap₂, _∙_, subst, subst⁻¹}
 use mathlib.Core.Bool.{Bool, true, false, not, cond, _&&_, _||_}
 use Prim.Native.Nat.{ℕ, _+_, _*_, _%_, _^_}
 use native.Mathlib.Omega.{arith}
@@ -9,9 +9,9 @@ use lib.IntN.{ℤ}
 use mir.Facts.{T-not-not, or-no}
 use Rattle.tables.proofs.Tests.{other}
 use Rattle.clock.specs.Numbers.{END, END2}
-use Rattle.clock.specs.Update.{version, isVersion3, versionKnown, endOf, wrongUnless, wordWrong, valuesBeyond, valuesOutside, rateTooWide, SameArguments, SameToTheWord}
+use Rattle.clock.specs.Update.{version, isVersion3, versionKnown, endOf, wrongUnless, wordWrong, valuesBeyond, valuesOutside, SameArguments, SameToTheWord}
 use Rattle.clock.specs.declared.Request.{Request}
-use Rattle.clock.proofs.Requests.{flag-alike, same-beyond}
+use Rattle.clock.proofs.Requests.{same-through, same-back, same-beyond, same-wide}
 use Rattle.slip.specs.Layout.{fitsVersion2, isNeedless}
 use Rattle.slip.specs.Writing.{slipVersion, inSlip}
 use Rattle.slip.proofs.Writings.{Writable}
@@ -52,13 +52,16 @@ module _ (u : Request) where
   unfolding inSlip
   slip-low = low-alike (slipVersion u) (u .word)
 
-  slip-beyond : (end : ℤ) → valuesBeyond end (inSlip u) ≡ valuesBeyond end u
-  unfolding valuesBeyond inSlip
-  slip-beyond end = rw (flag-alike 57 0 (inSlip u .word) (u .word) slip-below, flag-alike 56 1 (inSlip u .word) (u .word) slip-below)
+  -- its arguments are the request's
+  slip-arguments : SameArguments (inSlip u) u
+  unfolding inSlip
+  slip-arguments = record { synthetic = λ t. refl; reference = λ t. refl; rate = λ t. refl; error = λ t. refl }
 
-  slip-wide : rateTooWide (inSlip u) ≡ rateTooWide u
-  unfolding rateTooWide inSlip
-  slip-wide = rw (flag-alike 55 2 (inSlip u .word) (u .word) slip-below)
+  pub slip-kept : SameArguments u (inSlip u)
+  slip-kept = same-back (inSlip u) u slip-below slip-arguments
+
+  slip-beyond : (end : ℤ) → valuesBeyond end (inSlip u) ≡ valuesBeyond end u
+  slip-beyond = same-beyond (inSlip u) u slip-below slip-arguments
 
   -- its word: a version that is known, and the bits that are to be zero as they were
   slip-known : T (not (wordWrong u)) → T (not (wordWrong (inSlip u)))
@@ -86,7 +89,7 @@ module _ (u : Request) where
   slip-writable w = record {
     word = slip-known (w .word);
     values = slip-inside (w .values);
-    rate = subst (λ (b : Bool). T (not b)) (sym slip-wide) (w .rate);
+    rate = subst⁻¹ (λ (b : Bool). T (not b)) (same-wide (inSlip u) u slip-below slip-arguments) (w .rate);
   }
 
   -- version 3 only where it is needed
@@ -129,13 +132,8 @@ module _ (u v : Request) (below : u .word % 2 ^ 58 ≡ v .word % 2 ^ 58) (same :
 
   -- have the same word in their slips
   pub slip-same : SameToTheWord (inSlip u) (inSlip v)
-  unfolding inSlip
   slip-same = record {
     word = word-same;
-    arguments = record {
-      synthetic = λ t. same .synthetic (subst T (flag-alike 57 0 (inSlip u .word) (u .word) (slip-below u)) t);
-      reference = λ t. same .reference (subst T (flag-alike 56 1 (inSlip u .word) (u .word) (slip-below u)) t);
-      rate = λ t. same .rate (subst T (flag-alike 55 2 (inSlip u .word) (u .word) (slip-below u)) t);
-      error = λ t. same .error (subst T (flag-alike 54 3 (inSlip u .word) (u .word) (slip-below u)) t);
-    };
+    arguments =
+        same-through (inSlip u) u (inSlip v) (slip-below u) (slip-arguments u) (same-through u v (inSlip v) below same (slip-kept v));
   }
