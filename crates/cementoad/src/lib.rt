@@ -1,6 +1,7 @@
 // The clock's and the slips' operations for callers in C and Rust, over numbers, structs of numbers and lent bytes.
 // include/cementoad.h declares them. Anything may be handed in: each operation tests for itself whether it is handed a
 // clock.
+#![tactic(auto)]
 ghost use Rattle.std.specs.Prelude.{◌≡◌};
 ghost use Rattle.slip.specs.Reading.{reading_front, reading_single};
 ghost use Rattle.slip.specs.Writing.{written_length, writing, outcome};

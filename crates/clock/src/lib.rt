@@ -1,4 +1,5 @@
 // A clock by value: created, read, updated and described. Times are whole nanoseconds.
+#![tactic(auto)]
 ghost use Rattle.std.specs.Prelude.{◌≡◌, not, cond, ◌/◌, ◌%◌, ◌<◌, T, eqb};
 ghost use Rattle.tables.specs.Tables.{first};
 ghost use Rattle.line.specs.Line.{zero_line};

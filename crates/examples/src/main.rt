@@ -1,5 +1,6 @@
 // The Rattle examples of README.md and docs/REFERENCE.md, run: a line for what each of them answers, and the constant
 // that no contract names.
+#![tactic(auto)]
 mod second_of_two;
 mod shown;
 mod started;

@@ -1,4 +1,5 @@
 // Packed fields: numbers of 0 to 64 bits that stand in bytes one after another, most significant bit first.
+#![tactic(auto)]
 ghost use Rattle.std.specs.Prelude.{◌≡◌, [], ◌∷◌, ◌+◌, ◌-◌, ◌*◌, ◌/◌, ◌%◌, ◌^◌, ◌≤◌, ◌<◌, min, length};
 ghost use Rattle.fields.specs.Bits.{digits, row};
 ghost use Rattle.fields.specs.Field.{field, over, Inside};

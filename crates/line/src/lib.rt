@@ -1,4 +1,5 @@
 // Lines: values in whole nanoseconds and the millionths beside them, with no product or sum beyond 64 bits.
+#![tactic(auto)]
 ghost use Rattle.std.specs.Prelude.{◌≡◌, ◌+◌, ◌*◌, ◌/◌, ◌%◌, ◌≤◌, ◌<◌, pos, ◌≤ℤ◌};
 ghost use Rattle.line.specs.Numbers.{million, signed_end, steepest, floor_div, floor_mod};
 ghost use Rattle.line.specs.Line.{zero_line, slope, value_at, turned, is_zeros, bounded, reaches, Rising, Computable, Storable};

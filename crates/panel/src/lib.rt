@@ -1,4 +1,5 @@
 // Commands of a trim panel, in floats, and the request that each asks for.
+#![tactic(auto)]
 ghost use Rattle.std.specs.Prelude.{◌≡◌, true, ◌^◌, ◌<◌, ◌≤◌};
 ghost use Rattle.std.specs.Float.Ieee.Nearest.{closest};
 ghost use Rattle.panel.specs.declared.Command.TheVariants.{Trim, Pull};

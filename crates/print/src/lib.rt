@@ -1,5 +1,6 @@
 // Text and numbers written to standard output. No contract can speak of what is written: each function is safe and
 // ends, and the programs' stored output shows the rest.
+#![tactic(auto)]
 use clock::Clock;
 use libc::STDOUT_FILENO;
 

@@ -1,4 +1,5 @@
 // Update slips: a request as packed bytes, read and written.
+#![tactic(auto)]
 ghost use Rattle.std.specs.Prelude.{◌≡◌, not, cond, ◌++◌, ◌*◌, ◌^◌, ◌<◌, ◌≤◌, pos, nat_abs, T, length, drop};
 ghost use Rattle.tables.specs.Tables.{first};
 ghost use Rattle.fields.specs.Record.{fields};

@@ -1,5 +1,6 @@
 // The worked cases of 01 that speak of clocks, and what was worked out by hand for a request of 02: a line for each
 // life of a clock. Case 12 speaks of slips.
+#![tactic(auto)]
 mod life;
 mod requests;
 
