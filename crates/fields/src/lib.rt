@@ -1,5 +1,6 @@
 // Packed fields: numbers of 0 to 64 bits that stand in bytes one after another, most significant bit first.
 #![tactic(auto)]
+
 ghost use Rattle.std.specs.Prelude.{◌≡◌, [], ◌∷◌, ◌+◌, ◌-◌, ◌*◌, ◌/◌, ◌%◌, ◌^◌, ◌≤◌, ◌<◌, min, length};
 ghost use Rattle.fields.specs.Bits.{digits, row};
 ghost use Rattle.fields.specs.Field.{field, over, Inside};
@@ -8,7 +9,7 @@ ghost use Rattle.fields.specs.Reader.{reader_at, moved_on};
 ghost use Rattle.fields.specs.Pending.{reach, merged, Ready, Together};
 
 // The lent bytes, and the place of the next field in bits.
-#[derive(Drop)]
+#[derive(Clone, Copy)]
 pub struct Reader<'a> {
     src: &'a [u8],
     place: usize,
@@ -213,7 +214,7 @@ pub fn put_all(buf: &mut [u8], widths: &[usize], values: &[u64])
 }
 
 // Bits that wait to be written from the byte `first` on: the first `count` of the word, whose others are 0.
-#[derive(Drop)]
+#[derive(Clone, Copy)]
 struct Pending {
     word: u64,
     count: usize,

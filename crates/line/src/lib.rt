@@ -1,5 +1,6 @@
 // Lines: values in whole nanoseconds and the millionths beside them, with no product or sum beyond 64 bits.
 #![tactic(auto)]
+
 ghost use Rattle.std.specs.Prelude.{◌≡◌, ◌+◌, ◌*◌, ◌/◌, ◌%◌, ◌≤◌, ◌<◌, pos, ◌≤ℤ◌};
 ghost use Rattle.line.specs.Numbers.{million, signed_end, steepest, floor_div, floor_mod};
 ghost use Rattle.line.specs.Line.{zero_line, slope, value_at, turned, is_zeros, bounded, reaches, Rising, Computable, Storable};
@@ -17,7 +18,7 @@ const SIGNED_END: u64 = i64::MAX as u64;
 // A line that is at synthetic nanoseconds and remainder millionths at reference, and gains 1,000,000 + rate millionths
 // in each nanosecond.
 #[repr(C)]
-#[derive(Drop)]
+#[derive(Clone, Copy)]
 pub struct Line {
     pub reference: i64,
     pub synthetic: i64,
@@ -26,7 +27,7 @@ pub struct Line {
 }
 
 // A line in natural numbers, with its slope in millionths.
-#[derive(Drop)]
+#[derive(Clone, Copy)]
 struct Numbers {
     reference: u64,
     synthetic: u64,
@@ -35,7 +36,7 @@ struct Numbers {
 }
 
 // A whole number: below 0, within what an i64 holds, or above that.
-#[derive(Drop)]
+#[derive(Clone, Copy)]
 pub enum Value {
     Below,
     Within(i64),
@@ -43,7 +44,7 @@ pub enum Value {
 }
 
 // A new line, or that its synthetic is below 0 or more than an i64 holds.
-#[derive(Drop)]
+#[derive(Clone, Copy)]
 pub enum Redrawn {
     Drawn(Line),
     Outside,
