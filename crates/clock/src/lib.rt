@@ -1,5 +1,6 @@
 // A clock by value: created, read, updated and described. Times are whole nanoseconds.
 #![tactic(auto)]
+
 ghost use Rattle.std.specs.Prelude.{◌≡◌, not, cond, ◌/◌, ◌%◌, ◌<◌, T, eqb};
 ghost use Rattle.tables.specs.Tables.{first};
 ghost use Rattle.line.specs.Line.{zero_line};
@@ -22,7 +23,7 @@ use tables::{next, refusal};
 // numbers, so each operation first tests whether they are a clock's. The byte started is 1 once the clock is started,
 // 0 before.
 #[repr(C)]
-#[derive(Drop)]
+#[derive(Clone, Copy)]
 pub struct Clock {
     line: Line,
     backstop: i64,
@@ -35,7 +36,7 @@ pub struct Clock {
 
 // An update's word and arguments. The word's flags say which arguments count.
 #[repr(C)]
-#[derive(Drop)]
+#[derive(Clone, Copy)]
 pub struct Request {
     pub word: u64,
     pub synthetic: i64,
@@ -45,7 +46,7 @@ pub struct Request {
 }
 
 // Which of its arguments a request flags.
-#[derive(Drop)]
+#[derive(Clone, Copy)]
 pub struct Flags {
     pub synthetic: bool,
     pub reference: bool,
@@ -54,7 +55,7 @@ pub struct Flags {
 }
 
 // What creation answers: a clock, or the number of a refusal and no clock.
-#[derive(Drop)]
+#[derive(Clone, Copy)]
 pub enum Created {
     Made(Clock),
     Refused(u8),
@@ -62,7 +63,7 @@ pub enum Created {
 
 // The clock that an update leaves; beside a refusal it is the one that was handed in. Refusal 0 is none.
 #[repr(C)]
-#[derive(Drop)]
+#[derive(Clone, Copy)]
 pub struct Updated {
     pub clock: Clock,
     pub refusal: u8,
@@ -70,7 +71,7 @@ pub struct Updated {
 
 // A reading, 0 where it is refused.
 #[repr(C)]
-#[derive(Drop)]
+#[derive(Clone, Copy)]
 pub struct Reading {
     pub refusal: u8,
     pub value: i64,
@@ -78,7 +79,7 @@ pub struct Reading {
 
 // What a clock tells of itself at a time.
 #[repr(C)]
-#[derive(Drop)]
+#[derive(Clone, Copy)]
 pub struct Details {
     pub started: bool,
     pub line: Line,
@@ -110,7 +111,7 @@ impl Details {
 
 // Details beside their refusal, which leaves them zeros.
 #[repr(C)]
-#[derive(Drop)]
+#[derive(Clone, Copy)]
 pub struct Detailed {
     pub refusal: u8,
     pub details: Details,
