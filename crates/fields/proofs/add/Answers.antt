@@ -1,5 +1,5 @@
 -- A field of no bits, one that finds room, and one that fills the word.
-use Rattle.std.proofs.Common.{◌+◌, ◌-◌, ◌^◌, sym, arith, rules}
+use Rattle.std.proofs.Common.{◌+◌, ◌-◌, sym, arith, rules}
 use native.Mathlib.Nat.{mod-lt}
 use lib.Pow.{pow_pos}
 use Rattle.fields.specs.Pending.{reach, merged}

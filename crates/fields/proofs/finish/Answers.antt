@@ -1,6 +1,5 @@
 -- The bytes that went out, with the bits that wait still, are what is to be there.
-use Rattle.std.proofs.Common.{◌≡◌, sym, ◌∙◌, arith}
-use Rattle.fields.specs.Pending.{merged}
+use Rattle.std.proofs.Common.{sym, ◌∙◌, arith}
 use Rattle.fields.proofs.Waiting.{nothing_waits, last_written}
 use Rattle.fields.proofs.finish.Goals as goal
 

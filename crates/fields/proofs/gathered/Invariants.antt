@@ -1,5 +1,5 @@
 -- The number is the bytes from `first` up to i.
-use Rattle.std.proofs.Common.{◌≡◌, ◌+◌, ◌-◌, ◌*◌, ◌≤◌, length}
+use Rattle.std.proofs.Common.{◌≡◌, ◌-◌, ◌*◌, ◌≤◌, length}
 use Rattle.fields.specs.Field.{field}
 use Rattle.fields.proofs.gathered.Given as goal
 

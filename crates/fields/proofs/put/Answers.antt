@@ -1,5 +1,5 @@
 -- The bits before the field wait in front of it, and all is as it was but for the field.
-use Rattle.std.proofs.Common.{◌≡◌, List, Bool, ℕ, ◌+◌, ◌*◌, ◌/◌, ◌%◌, ap₂, sym, ◌∙◌, arith, rules}
+use Rattle.std.proofs.Common.{◌≡◌, List, Bool, ℕ, ◌+◌, ◌*◌, ◌/◌, ◌%◌, ap₂, sym, ◌∙◌, arith}
 use Rattle.fields.specs.Bits.{digits, row}
 use Rattle.fields.specs.Field.{over}
 use Rattle.fields.proofs.Over.{over_no_digits}

@@ -1,9 +1,7 @@
 -- One field more waits or is written, and its place is where the ones before end.
-use Rattle.std.proofs.Common.{◌≡◌, ℕ, ◌+◌, ap, ap₂, refl, ◌∙◌, arith, take_all}
+use Rattle.std.proofs.Common.{◌+◌, refl, ◌∙◌, arith}
 use Rattle.fields.specs.Bits.{row}
-use Rattle.fields.specs.Field.{over}
-use Rattle.fields.specs.Record.{total, packed}
-use Rattle.fields.specs.Pending.{reach, merged, Together}
+use Rattle.fields.specs.Pending.{reach, merged}
 use Rattle.fields.proofs.Rows.{length_row}
 use Rattle.fields.proofs.Waiting.{nothing_waits}
 use Rattle.fields.proofs.Turns.{total_more, total_le, narrow_at, packed_none, put-all-step}

@@ -1,5 +1,5 @@
 -- Each reader is the one before, moved on by that width, and so are the places of the fields.
-use Rattle.std.proofs.Common.{◌≡◌, List, [], ◌∷◌, ℕ, ◌+◌, ap, ap₂, refl, ◌∙◌, Bor}
+use Rattle.std.proofs.Common.{◌≡◌, List, ◌∷◌, ℕ, ◌+◌, ap, ap₂, refl, ◌∙◌, Bor}
 use Rattle.fields.specs.Field.{field}
 use Rattle.fields.specs.Record.{fields}
 use Rattle.fields.specs.Reader.{reader_at, moved_on}
