@@ -366,6 +366,7 @@ impl Clock {
     }
 
     // The clock that an accepted update leaves.
+    #[tactic(auto, unfolding(crate::specs::Update::updated))]
     fn updated(self, request: Request, line: Line, now: i64) -> Clock
         requires { line ≡ new_line self request now }
         ensures { result ≡ updated self request now }
@@ -386,6 +387,7 @@ impl Clock {
     }
 
     // The old line of an update: the identity line before the start.
+    #[tactic(auto, unfolding(crate::specs::Clock::old_line))]
     fn old_line(self) -> Line
         ensures { result ≡ old_line self }
     {
@@ -448,6 +450,7 @@ fn creation_refusal(word: u8, backstop: i64, now: i64) -> u8
     next(r, auto_start & (now < backstop), refusal::BACKSTOP_AHEAD)
 }
 
+#[tactic(auto, unfolding(crate::specs::Creation::created))]
 fn new_clock(word: u8, backstop: i64, now: i64) -> Clock
     ensures { result ≡ created word backstop now }
 {
@@ -480,6 +483,7 @@ fn has(word: u8, flag: u8) -> bool
 }
 
 // The generation after an accepted update.
+#[tactic(auto, unfolding(crate::specs::Update::next_generation))]
 fn next_generation(generation: u32) -> u32
     ensures { result ≡ next_generation generation }
 {
