@@ -248,6 +248,7 @@ impl Clock {
     }
 
     // Whether it is a clock, and started.
+    #[tactic(auto, unfolding(crate::specs::Details::is_started))]
     pub fn started(self) -> bool
         ensures { result ≡ is_started self }
     {
@@ -409,6 +410,7 @@ impl Clock {
         }
     }
 
+    #[tactic(auto, unfolding(crate::specs::Details::details_of))]
     fn described(self, now: i64) -> Details
         ensures { result ≡ details_of self now }
     {
