@@ -9,7 +9,7 @@ use lib.Dec.{T, eqb, leb, ltb, leb→le, eqb→eq, ltb→lt, lt→ltb}
 use mir.Facts.{and_yes, yes_and}
 use Rattle.tables.proofs.Tests.{is_false, if_true, if_false, by_cases}
 use Rattle.tables.proofs.Tables.{test, passed, nothing_told}
-use Rattle.line.specs.Line.{line, value_at, is_zeros, bounded, reaches}
+use Rattle.line.specs.Line.{value_at, is_zeros, bounded, reaches}
 use Rattle.line.specs.declared.Line.{Line}
 use Rattle.line.proofs.Linear.{≤ℤ_trans}
 use Rattle.line.proofs.Tests.{four}

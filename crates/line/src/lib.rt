@@ -62,6 +62,7 @@ impl Line {
         }
     }
 
+    #[tactic(auto, unfolding(crate::specs::Line::is_zeros))]
     pub fn is_zeros(self) -> bool
         ensures { result ≡ is_zeros self }
     {
@@ -184,6 +185,7 @@ fn remainder_of(line: Numbers, t: u64) -> u32
 }
 
 // (distance x slope + carry) / 1,000,000, by parts.
+#[tactic(auto, using(crate::proofs::ByParts::scaled_by_parts))]
 fn scaled(distance: u64, slope: u64, carry: u64) -> u64
     requires { (distance ≤ signed_end) × (slope ≤ steepest) × (carry < million) }
     ensures { result ≡ (distance * slope + carry) / million }
@@ -192,6 +194,7 @@ fn scaled(distance: u64, slope: u64, carry: u64) -> u64
 }
 
 // What that quotient leaves.
+#[tactic(auto, using(crate::proofs::ByParts::rest_by_parts))]
 fn rest(distance: u64, slope: u64, carry: u64) -> u64
     requires { (slope ≤ steepest) × (carry < million) }
     ensures { result ≡ (distance * slope + carry) % million }
