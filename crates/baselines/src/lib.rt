@@ -1,6 +1,7 @@
 // A reader of slips that takes one bit at a time, kept to compare the product's with (02, R-3). It is proved to answer
 // alike, and shares with `slip` all that takes no bits.
 #![tactic(auto)]
+
 ghost use Rattle.std.specs.Prelude.{◌≡◌, ◌-◌, ◌/◌, ◌%◌, ◌^◌, ◌<◌};
 ghost use Rattle.fields.specs.Field.{field, Inside};
 ghost use Rattle.fields.specs.Record.{fields, AllInside};

@@ -2,6 +2,7 @@
 // include/cementoad.h declares them. Anything may be handed in: each operation tests for itself whether it is handed a
 // clock.
 #![tactic(auto)]
+
 ghost use Rattle.std.specs.Prelude.{◌≡◌};
 ghost use Rattle.slip.specs.Reading.{reading_front, reading_single};
 ghost use Rattle.slip.specs.Writing.{written_length, writing, outcome};
@@ -19,7 +20,7 @@ pub const ABI: u32 = 5;
 
 // A new clock. A refused creation gives zeros, which are no clock.
 #[repr(C)]
-#[derive(Drop)]
+#[derive(Clone, Copy)]
 pub struct Created {
     pub clock: Clock,
     pub refusal: u8,

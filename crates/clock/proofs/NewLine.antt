@@ -127,10 +127,10 @@ module _ (c : Clock) (u : Request) (now : ℤ) where
 -- as the code judges them: by the line as it was drawn, and the value of the line that stands for it
 abbrev pub judged_table : Clock → Request → ℤ → Redrawn → Line → Line → List Row
 judged_table c u now redrawn l old =
-    let newValue = placed (value_at l now) in
-    (12 when (replaces u && (is_beyond redrawn END || is_over newValue END))
-    ∷ 13 when (replaces u && is_under newValue c.backstop)
-    ∷ 14 when (replaces u && (monotonic c.word && is_running c && is_less newValue (placed (value_at old now))))
+    let new_value = placed (value_at l now) in
+    (12 when (replaces u && (is_beyond redrawn END || is_over new_value END))
+    ∷ 13 when (replaces u && is_under new_value c.backstop)
+    ∷ 14 when (replaces u && (monotonic c.word && is_running c && is_less new_value (placed (value_at old now))))
     ∷ [])
 
 and_agree : (a x y : Bool) → (T a → x ≡ y) → (a && x) ≡ (a && y)

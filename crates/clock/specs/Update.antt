@@ -100,7 +100,7 @@ new_line c u now = effect (has_synthetic u) (has_rate u) (old_line c) (point u n
 unfoldable pub request_table : Clock → Request → ℤ → List Row
 request_table c u now =
     let is_monotonic = monotonic c.word in
-    let isContinuous = continuous c.word in
+    let is_continuous = continuous c.word in
     time_table c now ++
     (3 when word_wrong u
     ∷ 4 when not (has_synthetic u || has_reference u || has_rate u || has_error u)
@@ -108,8 +108,8 @@ request_table c u now =
     ∷ 6 when rate_too_wide u
     ∷ 7 when (has_reference u && not (has_synthetic u || has_rate u))
     ∷ 8 when (not (is_running c) && not (has_synthetic u))
-    ∷ 9 when (isContinuous && has_reference u)
-    ∷ 10 when (isContinuous && is_running c && has_synthetic u)
+    ∷ 9 when (is_continuous && has_reference u)
+    ∷ 10 when (is_continuous && is_running c && has_synthetic u)
     ∷ 11 when (is_monotonic && is_running c && has_synthetic u && has_rate u)
     ∷ 22 when (is_running c && (has_rate u && step_outside (u.rate -ℤ c.line.rate)))
     ∷ [])
@@ -118,11 +118,11 @@ request_table c u now =
 unfoldable pub new_line_table : Clock → Request → ℤ → List Row
 new_line_table c u now =
     let new = new_line c u now in
-    let newValue = value_at new now in
-    let oldValue = value_at (old_line c) now in
-    (12 when (replaces u && (time_outside new.synthetic || lt_z END newValue))
-    ∷ 13 when (replaces u && lt_z newValue c.backstop)
-    ∷ 14 when (replaces u && (monotonic c.word && is_running c && lt_z newValue oldValue))
+    let new_value = value_at new now in
+    let old_value = value_at (old_line c) now in
+    (12 when (replaces u && (time_outside new.synthetic || lt_z END new_value))
+    ∷ 13 when (replaces u && lt_z new_value c.backstop)
+    ∷ 14 when (replaces u && (monotonic c.word && is_running c && lt_z new_value old_value))
     ∷ [])
 
 unfoldable pub update_table : Clock → Request → ℤ → List Row

@@ -70,6 +70,7 @@ impl Clock {
         }
     }
 
+    #[tactic(auto, unfolding(crate::specs::Taken::as_created))]
     fn is_as_created(self) -> bool
         ensures { result ≡ as_created self }
     {

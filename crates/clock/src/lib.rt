@@ -1,5 +1,6 @@
 // A clock by value: created, read, updated and described. Times are whole nanoseconds.
 #![tactic(auto)]
+
 ghost use Rattle.std.specs.Prelude.{◌≡◌, not, cond, ◌/◌, ◌%◌, ◌<◌, T, eqb};
 ghost use Rattle.tables.specs.Tables.{first};
 ghost use Rattle.line.specs.Line.{zero_line};
@@ -22,7 +23,7 @@ use tables::{next, refusal};
 // numbers, so each operation first tests whether they are a clock's. The byte started is 1 once the clock is started,
 // 0 before.
 #[repr(C)]
-#[derive(Drop)]
+#[derive(Clone, Copy)]
 pub struct Clock {
     line: Line,
     backstop: i64,
@@ -35,7 +36,7 @@ pub struct Clock {
 
 // An update's word and arguments. The word's flags say which arguments count.
 #[repr(C)]
-#[derive(Drop)]
+#[derive(Clone, Copy)]
 pub struct Request {
     pub word: u64,
     pub synthetic: i64,
@@ -45,7 +46,7 @@ pub struct Request {
 }
 
 // Which of its arguments a request flags.
-#[derive(Drop)]
+#[derive(Clone, Copy)]
 pub struct Flags {
     pub synthetic: bool,
     pub reference: bool,
@@ -54,7 +55,7 @@ pub struct Flags {
 }
 
 // What creation answers: a clock, or the number of a refusal and no clock.
-#[derive(Drop)]
+#[derive(Clone, Copy)]
 pub enum Created {
     Made(Clock),
     Refused(u8),
@@ -62,7 +63,7 @@ pub enum Created {
 
 // The clock that an update leaves; beside a refusal it is the one that was handed in. Refusal 0 is none.
 #[repr(C)]
-#[derive(Drop)]
+#[derive(Clone, Copy)]
 pub struct Updated {
     pub clock: Clock,
     pub refusal: u8,
@@ -70,7 +71,7 @@ pub struct Updated {
 
 // A reading, 0 where it is refused.
 #[repr(C)]
-#[derive(Drop)]
+#[derive(Clone, Copy)]
 pub struct Reading {
     pub refusal: u8,
     pub value: i64,
@@ -78,7 +79,7 @@ pub struct Reading {
 
 // What a clock tells of itself at a time.
 #[repr(C)]
-#[derive(Drop)]
+#[derive(Clone, Copy)]
 pub struct Details {
     pub started: bool,
     pub line: Line,
@@ -110,7 +111,7 @@ impl Details {
 
 // Details beside their refusal, which leaves them zeros.
 #[repr(C)]
-#[derive(Drop)]
+#[derive(Clone, Copy)]
 pub struct Detailed {
     pub refusal: u8,
     pub details: Details,
@@ -247,6 +248,7 @@ impl Clock {
     }
 
     // Whether it is a clock, and started.
+    #[tactic(auto, unfolding(crate::specs::Details::is_started))]
     pub fn started(self) -> bool
         ensures { result ≡ is_started self }
     {
@@ -364,6 +366,7 @@ impl Clock {
     }
 
     // The clock that an accepted update leaves.
+    #[tactic(auto, unfolding(crate::specs::Update::updated))]
     fn updated(self, request: Request, line: Line, now: i64) -> Clock
         requires { line ≡ new_line self request now }
         ensures { result ≡ updated self request now }
@@ -384,6 +387,7 @@ impl Clock {
     }
 
     // The old line of an update: the identity line before the start.
+    #[tactic(auto, unfolding(crate::specs::Clock::old_line))]
     fn old_line(self) -> Line
         ensures { result ≡ old_line self }
     {
@@ -406,6 +410,7 @@ impl Clock {
         }
     }
 
+    #[tactic(auto, unfolding(crate::specs::Details::details_of))]
     fn described(self, now: i64) -> Details
         ensures { result ≡ details_of self now }
     {
@@ -445,6 +450,7 @@ fn creation_refusal(word: u8, backstop: i64, now: i64) -> u8
     next(r, auto_start & (now < backstop), refusal::BACKSTOP_AHEAD)
 }
 
+#[tactic(auto, unfolding(crate::specs::Creation::created))]
 fn new_clock(word: u8, backstop: i64, now: i64) -> Clock
     ensures { result ≡ created word backstop now }
 {
@@ -477,6 +483,7 @@ fn has(word: u8, flag: u8) -> bool
 }
 
 // The generation after an accepted update.
+#[tactic(auto, unfolding(crate::specs::Update::next_generation))]
 fn next_generation(generation: u32) -> u32
     ensures { result ≡ next_generation generation }
 {

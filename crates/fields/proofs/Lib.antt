@@ -9,6 +9,4 @@ pub mod Waiting
 pub mod Records
 pub mod Turns
 pub mod Buffers
-pub mod Cells
-pub mod Carried
 pub mod Lents

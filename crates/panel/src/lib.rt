@@ -1,5 +1,6 @@
 // Commands of a trim panel, in floats, and the request that each asks for.
 #![tactic(auto)]
+
 ghost use Rattle.std.specs.Prelude.{◌≡◌, true, ◌^◌, ◌<◌, ◌≤◌};
 ghost use Rattle.std.specs.Float.Ieee.Nearest.{closest};
 ghost use Rattle.panel.specs.declared.Command.TheVariants.{Trim, Pull};
@@ -12,7 +13,7 @@ use tables::refusal;
 
 // What a maintainer asks of a clock: to leave it as it runs, to have this rate, or to gain an offset over a window. A
 // rate is in parts per million and replaces the clock's own; an offset is in nanoseconds, a window in seconds.
-#[derive(Drop)]
+#[derive(Clone, Copy)]
 pub enum Command {
     Hold,
     Trim(f64),
@@ -20,7 +21,7 @@ pub enum Command {
 }
 
 // What a command comes to: no update, a request of the rate alone, or the number of a refusal.
-#[derive(Drop)]
+#[derive(Clone, Copy)]
 pub enum Translated {
     NoUpdate,
     Update(Request),
@@ -44,6 +45,7 @@ const CAP: u64 = 2048;
 
 impl Command {
     // The request that the command asks for. No clock is asked: whether one takes the rate, its update says.
+    #[tactic(auto, unfolding(crate::specs::Panel::translating))]
     pub fn translate(self) -> Translated
         ensures { told result ≡ translating self }
     {

@@ -1,6 +1,6 @@
 -- Slips in a row, each behind the last (02, R-5).
 use Rattle.std.specs.Prelude.{List, [], ◌∷◌, ℕ, zero, suc, ◌+◌, ◌-◌, ℤ}
-use Rattle.std.specs.Borrow.{Bor}
+use Rattle.std.specs.Borrow.{MutBor}
 use Rattle.tables.specs.Tables.{answer_to}
 use Rattle.clock.specs.declared.Request.{Request}
 use Rattle.fields.specs.Lent.{Lent, Part, part, from}
@@ -16,7 +16,7 @@ pub record NextSlip : Type 0 where
   pub rest : Part
 
 -- word, synthetic, reference, rate, error and refusal as the lent numbers hold them
-abbrev pub next_slip : Bor ℕ → Bor ℤ → Bor ℤ → Bor ℤ → Bor ℕ → Bor ℕ → Lent → NextSlip
+abbrev pub next_slip : MutBor ℕ → MutBor ℤ → MutBor ℤ → MutBor ℤ → MutBor ℕ → MutBor ℕ → Lent → NextSlip
 next_slip w s p a e n rest = record {
   request = record { word = w.now; synthetic = s.now; reference = p.now; rate = a.now; error = e.now };
   refusal = n.now;

@@ -1,5 +1,6 @@
 // Update slips: a request as packed bytes, read and written.
 #![tactic(auto)]
+
 ghost use Rattle.std.specs.Prelude.{◌≡◌, not, cond, ◌++◌, ◌*◌, ◌^◌, ◌<◌, ◌≤◌, pos, nat_abs, T, length, drop};
 ghost use Rattle.tables.specs.Tables.{first};
 ghost use Rattle.fields.specs.Record.{fields};
@@ -16,7 +17,7 @@ use tables::{next, refusal};
 
 // A request that was read, how many bytes its slip used, and its refusal. A refused one is zeros but for its number.
 #[repr(C)]
-#[derive(Drop)]
+#[derive(Clone, Copy)]
 pub struct Received {
     pub request: Request,
     pub length: usize,
@@ -25,14 +26,14 @@ pub struct Received {
 
 // How many bytes were written, 0 where it is refused.
 #[repr(C)]
-#[derive(Drop)]
+#[derive(Clone, Copy)]
 pub struct Written {
     pub length: usize,
     pub refusal: u8,
 }
 
 // The bits of header, synthetic, reference, rate, error and padding, and the bytes that they fill.
-#[derive(Drop)]
+#[derive(Clone, Copy)]
 pub struct Sizes {
     pub layout: [usize; 6],
     length: usize,
@@ -40,7 +41,7 @@ pub struct Sizes {
 
 // What the header of some bytes calls for: its word with zero arguments, and the sizes of its slip. A refused one is
 // zeros but for its number.
-#[derive(Drop)]
+#[derive(Clone, Copy)]
 pub struct Opened {
     asked: Request,
     pub sizes: Sizes,
@@ -72,6 +73,7 @@ const HEADER_UNIT: u64 = 1 << (64 - HEADER_BITS);
 const RATE_FIELD_END: u64 = 2 * (Clock::MAX_RATE as u64);
 
 // The slip on the front of the bytes, whatever follows it. Here the bits are taken; the parts below say what they mean.
+#[tactic(auto, using(crate::proofs::Openings::header_inside, crate::proofs::Openings::header_taken))]
 pub fn read(bytes: &[u8]) -> Received
     ensures { result ≡ reading_front bytes.now }
 {
@@ -138,6 +140,7 @@ pub fn write(request: Request, buffer: &mut [u8]) -> Written
 }
 
 // How many bytes the request's slip has, 0 where writing refuses it whatever the room.
+#[tactic(auto, using(crate::proofs::Layouts::length_alike, tables::proofs::Tables::answered, tables::proofs::Tables::refused_by_lem), unfolding(crate::specs::Writing::written_length))]
 pub fn slip_length(request: Request) -> usize
     ensures { result ≡ written_length request }
 {
@@ -183,6 +186,7 @@ pub fn opening_of(bytes: &[u8], header: u64) -> Opened
 
 // What is read on the front of these bytes, from what their header calls for and the fields that were taken by it. The
 // bytes are handed over for the contract alone.
+#[tactic(auto, using(crate::proofs::Fronts::opened_judged, crate::proofs::Fronts::opened_refused))]
 pub fn received_of(bytes: &[u8], opened: Opened, values: [u64; 6]) -> Received
     requires { (opened ≡ opening bytes.now) × (values ≡ fields bytes.now 0 opened.sizes.layout) }
     ensures { result ≡ reading_front bytes.now }
@@ -197,6 +201,7 @@ pub fn received_of(bytes: &[u8], opened: Opened, values: [u64; 6]) -> Received
 
 // What is read where these bytes are a single slip, from what was read on their front: none may be left over. The
 // answer is put together again field by field: one that is copied as a whole waits for memory (docs/PERFORMANCE.md).
+#[tactic(auto, unfolding(crate::specs::Reading::reading_single))]
 pub fn single_of(bytes: &[u8], received: Received) -> Received
     requires { received ≡ reading_front bytes.now }
     ensures { result ≡ reading_single bytes.now }
@@ -365,6 +370,7 @@ fn flagged_width(flagged: bool, width: usize) -> usize
 }
 
 // The bits of header, synthetic, reference, rate and error.
+#[tactic(auto, unfolding(crate::specs::Layout::widths_by))]
 fn widths_of(word: u64) -> [usize; 5]
     ensures { result ≡ widths (bare word) }
 {
@@ -398,6 +404,7 @@ fn length_of(word: u64) -> usize
 }
 
 // The request as its slip has it: in version 2 where that does, else in version 3.
+#[tactic(auto, unfolding(crate::specs::Writing::in_slip))]
 fn in_slip(request: Request) -> Request
     ensures { result ≡ in_slip request }
 {
@@ -431,6 +438,7 @@ fn slip_version(request: Request) -> u64
 
 // Why a request can't be written whatever the room, 0 where it can. It ends at the first test that applies: a request
 // that is written passes three tests, and no number is picked.
+#[tactic(auto, unfolding(crate::specs::Writing::asked_table))]
 fn asked_refusal(request: Request) -> u8
     ensures { result ≡ first (asked_table request) }
 {
@@ -473,6 +481,7 @@ fn write_slip(request: Request, buffer: &mut [u8])
 }
 
 // Header, synthetic, reference, rate, error and padding as a slip has them.
+#[tactic(auto, using(clock::proofs::Requests::synthetic_in_range, clock::proofs::Requests::reference_in_range, clock::proofs::Requests::rate_permitted), unfolding(crate::specs::Writing::values_of))]
 fn values_of(request: Request) -> [u64; 6]
     requires { T (not (values_outside request)) × T (not (rate_too_wide request)) }
     ensures { result ≡ values_of request }
