@@ -1,48 +1,35 @@
 // Text and numbers written to standard output. No contract can speak of what is written: each function is safe and
-// ends, and the programs' stored output shows the rest.
+// ends, and the programs' stored output shows the rest. A write that fails is told by what each of them returns.
 #![tactic(auto)]
+
 use clock::Clock;
-use libc::STDOUT_FILENO;
+use std::io;
 
-pub fn write(text: &[u8]) {
-    io::write_all(STDOUT_FILENO, text);
+pub fn write(rt: &impl Print, text: &[u8]) -> io::Result<()> {
+    rt.write_all(text)
 }
 
-pub fn end() {
-    write(b"\n");
+pub fn end(rt: &impl Print) -> io::Result<()> {
+    write(rt, b"\n")
 }
 
-pub fn number(n: u64) {
-    io::print_decimal(STDOUT_FILENO, n);
+pub fn number(rt: &impl Print, n: u64) -> io::Result<()> {
+    print!(rt; "{n}")
 }
 
 // The end of the range has a name.
-pub fn signed(x: i64) {
+pub fn signed(rt: &impl Print, x: i64) -> io::Result<()> {
     if x == Clock::END {
-        write(b"END");
-    } else if x < 0 {
-        write(b"-");
-        number(size(x));
+        write(rt, b"END")
     } else {
-        number(size(x));
+        print!(rt; "{x}")
     }
 }
 
 // What END stands for.
-pub fn legend() {
-    write(b"END is ");
-    number(size(Clock::END));
-    write(b", the last time and the highest value\n");
-}
-
-// A number without its sign.
-fn size(x: i64) -> u64 {
-    if x < 0 {
-        let below = (-1 - x) as u64;
-        std::num::wrapping_add_u64(below, 1)
-    } else {
-        x as u64
-    }
+pub fn legend(rt: &impl Print) -> io::Result<()> {
+    let end = Clock::END;
+    print!(rt; "END is {end}, the last time and the highest value\n")
 }
 
 pub fn wide(x: i32) -> i64 {

@@ -1,38 +1,39 @@
 // A clock's life on one line: each call writes what is asked and what the clock answers.
 use clock::{Clock, Created, Reading, Request};
+use std::io;
 
 // A life begins with a creation. Where it is refused zeros stand for the clock, and are refused what they ask.
-pub fn create(word: u8, backstop: i64, now: i64) -> Clock {
-    time(now);
-    print::write(b" create");
-    kind(word);
-    argument(backstop != 0, b", backstop ", backstop);
+pub fn create(rt: &impl Print, word: u8, backstop: i64, now: i64) -> io::Result<Clock> {
+    time(rt, now)?;
+    print::write(rt, b" create")?;
+    kind(rt, word)?;
+    argument(rt, backstop != 0, b", backstop ", backstop)?;
     match Clock::create(word, backstop, now) {
         Created::Made(clock) => {
-            print::write(b": created");
-            clock
+            print::write(rt, b": created")?;
+            Ok(clock)
         }
         Created::Refused(n) => {
-            refused(n);
-            Clock::zeros()
+            refused(rt, n)?;
+            Ok(Clock::zeros())
         }
     }
 }
 
 // The life goes on as the update leaves it.
-pub fn update(clock: Clock, request: Request, now: i64) -> Clock {
-    then(now);
-    arguments(request);
+pub fn update(rt: &impl Print, clock: Clock, request: Request, now: i64) -> io::Result<Clock> {
+    then(rt, now)?;
+    arguments(rt, request)?;
     let updated = clock.update(request, now);
-    outcome(updated.refusal);
-    updated.clock
+    outcome(rt, updated.refusal)?;
+    Ok(updated.clock)
 }
 
 // The same request at each nanosecond up to the last, told as one. The generation shows whether all were taken.
-pub fn again(clock: Clock, request: Request, last: u32) -> Clock {
-    named_number(b"; at 1 to ", last as u64);
-    arguments(request);
-    repeated(clock, request, last)
+pub fn again(rt: &impl Print, clock: Clock, request: Request, last: u32) -> io::Result<Clock> {
+    named_number(rt, b"; at 1 to ", last as u64)?;
+    arguments(rt, request)?;
+    Ok(repeated(clock, request, last))
 }
 
 fn repeated(clock: Clock, request: Request, last: u32) -> Clock {
@@ -45,70 +46,71 @@ fn repeated(clock: Clock, request: Request, last: u32) -> Clock {
     c
 }
 
-pub fn read(clock: Clock, now: i64) {
-    then(now);
-    told(clock.read(now));
+pub fn read(rt: &impl Print, clock: Clock, now: i64) -> io::Result<()> {
+    then(rt, now)?;
+    told(rt, clock.read(now))
 }
 
 // The generation as the details tell it.
-pub fn generation(clock: Clock, now: i64) {
-    then(now);
+pub fn generation(rt: &impl Print, clock: Clock, now: i64) -> io::Result<()> {
+    then(rt, now)?;
     let details = clock.details(now).details;
-    named_number(b" generation ", details.generation as u64);
+    named_number(rt, b" generation ", details.generation as u64)
 }
 
 // The remainder as the details tell it.
-pub fn remainder(clock: Clock, now: i64) {
-    then(now);
+pub fn remainder(rt: &impl Print, clock: Clock, now: i64) -> io::Result<()> {
+    then(rt, now)?;
     let line = clock.details(now).details.line;
-    named_number(b" remainder ", line.remainder as u64);
+    named_number(rt, b" remainder ", line.remainder as u64)
 }
 
-fn told(reading: Reading) {
+fn told(rt: &impl Print, reading: Reading) -> io::Result<()> {
     if reading.refusal == 0 {
-        print::write(b" reads ");
+        print::write(rt, b" reads ")?;
     } else {
-        print::write(b" read");
-        refused(reading.refusal);
-        print::write(b", value ");
+        print::write(rt, b" read")?;
+        refused(rt, reading.refusal)?;
+        print::write(rt, b", value ")?;
     }
-    print::signed(reading.value);
+    print::signed(rt, reading.value)
 }
 
-fn outcome(refusal: u8) {
+fn outcome(rt: &impl Print, refusal: u8) -> io::Result<()> {
     if refusal == 0 {
-        print::write(b": taken");
+        print::write(rt, b": taken")
     } else {
-        refused(refusal);
+        refused(rt, refusal)
     }
 }
 
 // What comes next on the line.
-fn then(now: i64) {
-    print::write(b"; ");
-    time(now);
+fn then(rt: &impl Print, now: i64) -> io::Result<()> {
+    print::write(rt, b"; ")?;
+    time(rt, now)
 }
 
-fn time(now: i64) {
-    print::write(b"at ");
-    print::signed(now);
+fn time(rt: &impl Print, now: i64) -> io::Result<()> {
+    print::write(rt, b"at ")?;
+    print::signed(rt, now)
 }
 
-fn kind(word: u8) {
-    named(word == 0, b" plain");
-    named(word / Clock::MONOTONIC % 2 == 1, b" monotonic");
-    named(word / Clock::CONTINUOUS % 2 == 1, b" continuous");
-    named(word / Clock::AUTO_START % 2 == 1, b" auto start");
+fn kind(rt: &impl Print, word: u8) -> io::Result<()> {
+    named(rt, word == 0, b" plain")?;
+    named(rt, word / Clock::MONOTONIC % 2 == 1, b" monotonic")?;
+    named(rt, word / Clock::CONTINUOUS % 2 == 1, b" continuous")?;
+    named(rt, word / Clock::AUTO_START % 2 == 1, b" auto start")
 }
 
-fn named(is: bool, name: &[u8]) {
+fn named(rt: &impl Print, is: bool, name: &[u8]) -> io::Result<()> {
     if is {
-        print::write(name);
+        print::write(rt, name)?;
     }
+    Ok(())
 }
 
 // What is flagged.
-fn arguments(request: Request) {
+fn arguments(rt: &impl Print, request: Request) -> io::Result<()> {
     let Request {
         word,
         synthetic,
@@ -116,35 +118,43 @@ fn arguments(request: Request) {
         rate,
         error,
     } = request;
-    named(request.is_version_3(), b" version 3");
-    argument(word / Request::SYNTHETIC % 2 == 1, b" set ", synthetic);
+    named(rt, request.is_version_3(), b" version 3")?;
+    argument(rt, word / Request::SYNTHETIC % 2 == 1, b" set ", synthetic)?;
     argument(
+        rt,
         word / Request::REFERENCE % 2 == 1,
         b" reference ",
         reference,
-    );
-    argument(word / Request::RATE % 2 == 1, b" rate ", print::wide(rate));
-    bound(word / Request::ERROR % 2 == 1, error);
+    )?;
+    argument(
+        rt,
+        word / Request::RATE % 2 == 1,
+        b" rate ",
+        print::wide(rate),
+    )?;
+    bound(rt, word / Request::ERROR % 2 == 1, error)
 }
 
-fn argument(flagged: bool, name: &[u8], x: i64) {
+fn argument(rt: &impl Print, flagged: bool, name: &[u8], x: i64) -> io::Result<()> {
     if flagged {
-        print::write(name);
-        print::signed(x);
+        print::write(rt, name)?;
+        print::signed(rt, x)?;
     }
+    Ok(())
 }
 
-fn bound(flagged: bool, error: u64) {
+fn bound(rt: &impl Print, flagged: bool, error: u64) -> io::Result<()> {
     if flagged {
-        named_number(b" error ", error);
+        named_number(rt, b" error ", error)?;
     }
+    Ok(())
 }
 
-fn refused(refusal: u8) {
-    named_number(b": refused ", refusal as u64);
+fn refused(rt: &impl Print, refusal: u8) -> io::Result<()> {
+    named_number(rt, b": refused ", refusal as u64)
 }
 
-fn named_number(name: &[u8], n: u64) {
-    print::write(name);
-    print::number(n);
+fn named_number(rt: &impl Print, name: &[u8], n: u64) -> io::Result<()> {
+    print::write(rt, name)?;
+    print::number(rt, n)
 }
