@@ -49,11 +49,11 @@ over_own r place k h =
     ∙ sym (cut r place k)
 
 -- two that follow each other are one
-pub over-over
+pub over_over
     : (r : List Bool) (place : ℕ) (a b : List Bool) (place2 : ℕ) → place2 ≡ place + length a → place + length a + length b ≤ length r
     → over (over r place a) place2 b ≡ over r place (a ++ b)
 unfolding over
-over-over r place a b place2 e h =
+over_over r place a b place2 e h =
     let d : List Bool = drop (place + length a) r in
     let la : length (take place r ++ a) ≡ place2 = omega (arith, length-append (take place r) a, length-take-le place r (omega arith)) in
     let lb : length (take (length b) d) ≡ length b = length-take-le (length b) d (omega (arith, length-drop (place + length a) r)) in

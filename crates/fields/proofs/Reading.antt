@@ -32,11 +32,11 @@ digits_field l place w h =
     ap (λ (n : ℕ). digits n (number r)) (sym e) ∙ digits_number r
 
 -- a field whose bits are known
-pub field-there
+pub field_there
     : (l : List ℕ) (place w v : ℕ) (before after : List Bool) → row l ≡ before ++ (digits w v ++ after) → length before ≡ place → v < 2 ^ w
     → field l place w ≡ v
 unfolding field
-field-there l place w v before after e len h =
+field_there l place w v before after e len h =
     ap (λ (r : List Bool). number (take w (drop place r))) e
     ∙ ap (λ (r : List Bool). number (take w r)) (drop_at before (digits w v ++ after) place len)
     ∙ ap number (take_at (digits w v) after w (length_digits w v))

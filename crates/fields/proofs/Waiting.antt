@@ -15,8 +15,8 @@ use Rattle.fields.specs.declared.Pending.{Pending}
 use Rattle.fields.proofs.Numbers.{length_digits, digits_mod, digits_append, digits_joined}
 use Rattle.fields.proofs.Rows.{length_row, row_byte}
 use Rattle.fields.proofs.Words.{shl_shl, shl_word, shl_word_twice, shl_clear, shr_shl, shl_shr_more, shl_shr_less}
-use Rattle.fields.proofs.Over.{over_no_digits, over_own, over-over}
-use Rattle.fields.proofs.Writing.{front-written, front_digits, front_fits}
+use Rattle.fields.proofs.Over.{over_no_digits, over_own, over_over}
+use Rattle.fields.proofs.Writing.{front_written, front_digits, front_fits}
 
 -- ---- a word, and the number of its first c bits
 
@@ -69,10 +69,10 @@ module _ (x c w v : ℕ) (hc : c < 64) (clear : x % 2 ^ (64 - c) ≡ 0) (hw : w 
       ap (λ (y : ℕ). y / 2 ^ c) (top ∙ ap (λ (k : ℕ). v % 2 ^ w * 2 ^ k) up) ∙ shl_shr_less (v % 2 ^ w) r c in
       ap₂ (λ (a b : ℕ). a + b) y m ∙ sym (add-mul (front x c * 2 ^ w) (v % 2 ^ w) (2 ^ r))
 
-  short-waits
+  short_waits
       : (r : ℕ) → c + w + r ≡ 64
       → ((x + moved v w c) % 2 ^ r ≡ 0) × (digits (c + w) ((x + moved v w c) / 2 ^ r) ≡ digits c (front x c) ++ digits w v)
-  short-waits r e =
+  short_waits r e =
       let sum = shifted_waits (front x c * 2 ^ w + v % 2 ^ w) (c + w) r (sum_short r e) in (
         sum.0,
         sum.1
@@ -119,21 +119,21 @@ module _ (l : List ℕ) (p : Pending) (w v : ℕ) (ready : Ready 64 p) (hw : w �
   field_behind =
       let lw : length (waiting p) ≡ p.count = length_digits p.count (front p.word p.count) in
       sym
-      (over-over (row l) (8 * p.first) (waiting p) (digits w v) (reach p) (omega (arith, lw)) (omega (arith, lw, length_digits w v, length_row l)))
+      (over_over (row l) (8 * p.first) (waiting p) (digits w v) (reach p) (omega (arith, lw)) (omega (arith, lw, length_digits w v, length_row l)))
 
   -- all of the field waits
   pub added_short : p.count + w < 64 → Together 64 l (record { word = sum; count = p.count + w; first = p.first }) after (reach p + w)
   unfolding merged
   added_short h =
-      let waits = short-waits p.word p.count w v ready.0 ready.1 hw (64 - (p.count + w)) (omega arith) in
+      let waits = short_waits p.word p.count w v ready.0 ready.1 hw (64 - (p.count + w)) (omega arith) in
       record { ready = (h, waits.0); reached = omega arith; merges = ap (over (row l) (8 * p.first)) waits.1 ∙ field_behind }
 
   -- the word went out, and what is left of the field waits
-  pub Added-full
+  pub added_full
       : (l2 : List ℕ) (r : ℕ) → row l2 ≡ over (row l) (8 * p.first) (digits 64 sum) → p.count + w ≡ 64 + r
       → Together 64 l2 (record { word = v * 2 ^ (63 - r) % 2 ^ 64 * 2 % 2 ^ 64; count = r; first = p.first + 8 }) after (reach p + w)
   unfolding merged
-  Added-full l2 r e er =
+  added_full l2 r e er =
       let few : r < 64 = omega (arith, ready.0) in
       let waits = shifted_waits (v % 2 ^ r) r (64 - r) (left_word v r few) in
       record {
@@ -141,7 +141,7 @@ module _ (l : List ℕ) (p : Pending) (w v : ℕ) (ready : Ready 64 p) (hw : w �
         reached = omega arith;
         merges =
             ap₂ (λ (y d : List Bool). over y (8 * (p.first + 8)) d) e (waits.1 ∙ digits_mod r v)
-            ∙ over-over (row l) (8 * p.first) (digits 64 sum) (digits r v) (8 * (p.first + 8))
+            ∙ over_over (row l) (8 * p.first) (digits 64 sum) (digits r v) (8 * (p.first + 8))
             (omega (arith, length_digits 64 sum)) (omega (arith, length_digits 64 sum, length_digits r v, length_row l))
             ∙ ap (over (row l) (8 * p.first)) (full_and_left p.word p.count w v ready.0 ready.1 hw r er)
             ∙ field_behind;
@@ -158,10 +158,10 @@ module _ (x c m : ℕ) (hc : c ≤ 64) (clear : x % 2 ^ (64 - c) ≡ 0) (h : m �
       (ap (λ (y : ℕ). y * 2 ^ m) (shr_shl x (64 - c) clear) ∙ shl_shl (front x c) (64 - c) m ∙ ap (λ (k : ℕ). front x c * 2 ^ k) up)
       ∙ shl_word (front x c) (c - m) (64 - (c - m)) (omega arith)
 
-  others-wait
+  others_wait
       : (x * 2 ^ m % 2 ^ 64 % 2 ^ (64 - (c - m)) ≡ 0)
       × (digits m (front x m) ++ digits (c - m) (x * 2 ^ m % 2 ^ 64 / 2 ^ (64 - (c - m))) ≡ digits c (front x c))
-  others-wait =
+  others_wait =
       let waits = shifted_waits (front x c % 2 ^ (c - m)) (c - m) (64 - (c - m)) others_word in
       let all : m + (c - m) ≡ c = omega arith in
       let down : 64 - c + (c - m) ≡ 64 - m = omega arith in (
@@ -181,7 +181,7 @@ unfolding merged
 drained l p bytes ready few inside l2 e h =
     let m : ℕ = 8 * bytes in
     let c : ℕ = p.count in
-    let waits = others-wait p.word c m (omega (arith, ready.0)) ready.1 h in
+    let waits = others_wait p.word c m (omega (arith, ready.0)) ready.1 h in
     let gone : List Bool = digits m (front p.word m) in
     let left : List Bool = digits (c - m) (p.word * 2 ^ m % 2 ^ 64 / 2 ^ (64 - (c - m))) in
     let lg : length gone ≡ m = length_digits m (front p.word m) in
@@ -191,7 +191,7 @@ drained l p bytes ready few inside l2 e h =
       reached = omega arith;
       merges =
           ap (λ (r : List Bool). over r (8 * (p.first + bytes)) left) e
-          ∙ over-over (row l) (8 * p.first) gone left (8 * (p.first + bytes)) (omega (arith, lg)) (omega (arith, lg, ll, length_row l))
+          ∙ over_over (row l) (8 * p.first) gone left (8 * (p.first + bytes)) (omega (arith, lg)) (omega (arith, lg, ll, length_row l))
           ∙ ap (over (row l) (8 * p.first)) waits.1;
     }
 
@@ -217,7 +217,7 @@ pub last_written
     → row (set l p.first x) ≡ merged l p
 unfolding merged
 last_written l p x e h hf =
-    front-written l p.first x (waiting p) e (omega (arith, length_digits p.count (front p.word p.count))) hf
+    front_written l p.first x (waiting p) e (omega (arith, length_digits p.count (front p.word p.count))) hf
 
 -- the first c bits of a byte as the first of a word
 pub front_word : (b c : ℕ) → b < 256 → c < 8 → b / 2 ^ (8 - c) * 2 ^ (8 - c) % 2 ^ 64 * 2 ^ 56 % 2 ^ 64 ≡ b / 2 ^ (8 - c) * 2 ^ (64 - c)
@@ -233,11 +233,11 @@ front_word b c hb h =
     ∙ ap (λ (k : ℕ). n * 2 ^ k) up
 
 -- where they wait, all is as it was
-pub front-waits
+pub front_waits
     : (l : List ℕ) (i c x : ℕ) → i < length l → c < 8 → x ≡ get_or l i 0 / 2 ^ (8 - c) * 2 ^ (64 - c)
     → Ready 64 (record { word = x; count = c; first = i }) × (merged l (record { word = x; count = c; first = i }) ≡ row l)
 unfolding merged
-front-waits l i c x h hc e =
+front_waits l i c x h hc e =
     let waits = shifted_waits (get_or l i 0 / 2 ^ (8 - c)) c (64 - c) e in (
       (omega arith, waits.0),
       ap (over (row l) (8 * i))

@@ -37,12 +37,12 @@ field_next l i j n x e ej h b =
     ∙ field_two l (8 * i) (8 * j) (8 * n) 8 (8 * (n + 1)) (omega arith) (omega arith) (omega arith)
 
 -- eight bytes, each at its place
-pub field-eight
+pub field_eight
     : (l : List ℕ) (i : ℕ) → i + 8 ≤ length l → Bytes l
     → get_or l i 0 * 2 ^ 56 + get_or l (i + 1) 0 * 2 ^ 48 + get_or l (i + 2) 0 * 2 ^ 40 + get_or l (i + 3) 0 * 2 ^ 32
     + get_or l (i + 4) 0 * 2 ^ 24 + get_or l (i + 5) 0 * 2 ^ 16 + get_or l (i + 6) 0 * 2 ^ 8 + get_or l (i + 7) 0
     ≡ field l (8 * i) 64
-field-eight l i h b =
+field_eight l i h b =
     sym (chained_sum (get_or l i 0) (get_or l (i + 1) 0) (get_or l (i + 2) 0) (get_or l (i + 3) 0) (get_or l (i + 4) 0) (get_or l (i + 5) 0) (get_or l (i + 6) 0) (get_or l (i + 7) 0))
     ∙ field_next l i (i + 7) 7 _
     (field_next l i (i + 6) 6 _
@@ -59,49 +59,49 @@ field-eight l i h b =
     refl (omega arith) (b (i + 7))
 
 -- m bits, shifted up by s until the first o of them are gone
-window-shl
+window_shl
     : (l : List ℕ) (a m o k s : ℕ) → m ≡ o + k → k + s ≡ 64 → a + m ≤ 8 * length l
     → field l a m * 2 ^ s % 2 ^ 64 ≡ field l (a + o) k * 2 ^ s
-window-shl l a m o k s em e h =
+window_shl l a m o k s em e h =
     ap₂ (λ (m n : ℕ). field l a m * 2 ^ s % 2 ^ n) em (sym e)
     ∙ ap (λ (n : ℕ). n * 2 ^ s % 2 ^ (k + s)) (field_more l a o k (omega arith))
     ∙ shl_low (field l a o) k s (field l (a + o) k) (field_lt l (a + o) k (omega arith))
 
 -- a field inside m bits, shifted up until what stands before it is gone, and down to its width
-pub window-in
+pub window_in
     : (l : List ℕ) (a m place w s : ℕ) → a ≤ place → place + w ≤ a + m → a + m + s ≡ place + 64 → a + m ≤ 8 * length l
     → field l a m * 2 ^ s % 2 ^ 64 / 2 ^ (64 - w) ≡ field l place w
-window-in l a m place w s ha hw e h =
+window_in l a m place w s ha hw e h =
     let o : ℕ = place - a in
     let r : ℕ = m - o - w in
     let down : 64 - w ≡ s + r = omega arith in
     let there : a + o ≡ place = omega arith in
-    ap₂ (λ (x d : ℕ). x / 2 ^ d) (window-shl l a m o (w + r) s (omega arith) (omega arith) h) down
+    ap₂ (λ (x d : ℕ). x / 2 ^ d) (window_shl l a m o (w + r) s (omega arith) (omega arith) h) down
     ∙ shl_shr_more (field l (a + o) (w + r)) s r
     ∙ ap (λ (n : ℕ). n / 2 ^ r) (field_more l (a + o) w r (omega arith))
     ∙ high (field l (a + o) w) r (field_lt l (a + o + w) r (omega arith))
     ∙ ap (λ (p : ℕ). field l p w) there
 
 -- a field that goes on in the byte after eight others, with `left` of its bits
-window-nine
+window_nine
     : (l : List ℕ) (i o w k d left : ℕ) → o + k ≡ 64 → o ≡ left + d → w ≡ k + left → left ≤ 8 → i + 8 < length l → get_or l (i + 8) 0 < 256
     → field l (8 * i) 64 * 2 ^ o % 2 ^ 64 / 2 ^ d + get_or l (i + 8) 0 / 2 ^ (8 - left) ≡ field l (8 * i + o) w
-window-nine l i o w k d left ek eo ew hl h b =
+window_nine l i o w k d left ek eo ew hl h b =
     ap₂ (λ (x y : ℕ). x + y)
-    (ap (λ (x : ℕ). x / 2 ^ d) (window-shl l (8 * i) 64 o k o (sym ek) (omega arith) (omega arith) ∙ ap (λ (n : ℕ). field l (8 * i + o) k * 2 ^ n) eo)
+    (ap (λ (x : ℕ). x / 2 ^ d) (window_shl l (8 * i) 64 o k o (sym ek) (omega arith) (omega arith) ∙ ap (λ (n : ℕ). field l (8 * i + o) k * 2 ^ n) eo)
     ∙ shl_shr_less (field l (8 * i + o) k) left d)
     (sym (field_front_bits l (i + 8) left h b hl))
     ∙ field_two l (8 * i + o) (8 * (i + 8)) k left w (omega arith) ew (omega arith)
 
-pub window-past
+pub window_past
     : (l : List ℕ) (i place w : ℕ) → 8 * i ≤ place → place < 8 * i + 8 → 8 * i + 64 < place + w → w ≤ 64 → i + 8 < length l → get_or l (i + 8) 0 < 256
     → field l (8 * i) 64 * 2 ^ (place - 8 * i) % 2 ^ 64 / 2 ^ (64 - w) + get_or l (i + 8) 0 / 2 ^ (72 - (place - 8 * i) - w) ≡ field l place w
-window-past l i place w ha hb hw h64 h b = go (place - 8 * i) (omega arith)
+window_past l i place w ha hb hw h64 h b = go (place - 8 * i) (omega arith)
   where
     go : (o : ℕ) → 8 * i + o ≡ place
         → field l (8 * i) 64 * 2 ^ o % 2 ^ 64 / 2 ^ (64 - w) + get_or l (i + 8) 0 / 2 ^ (72 - o - w) ≡ field l place w
     go o e =
         let rest : 72 - o - w ≡ 8 - (o + w - 64) = omega arith in
         ap (λ (n : ℕ). field l (8 * i) 64 * 2 ^ o % 2 ^ 64 / 2 ^ (64 - w) + get_or l (i + 8) 0 / 2 ^ n) rest
-        ∙ window-nine l i o w (64 - o) (64 - w) (o + w - 64) (omega arith) (omega arith) (omega arith) (omega arith) h b
+        ∙ window_nine l i o w (64 - o) (64 - w) (o + w - 64) (omega arith) (omega arith) (omega arith) (omega arith) h b
         ∙ ap (λ (p : ℕ). field l p w) e

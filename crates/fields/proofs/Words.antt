@@ -72,13 +72,13 @@ module _ (a b c d e f g h : ℕ) where
   pub chained_sum : chained ≡ a * 2 ^ 56 + b * 2 ^ 48 + c * 2 ^ 40 + d * 2 ^ 32 + e * 2 ^ 24 + f * 2 ^ 16 + g * 2 ^ 8 + h
   chained_sum = omega arith
 
-  pub or-eight
+  pub or_eight
       : a < 256 → b < 256 → c < 256 → d < 256 → e < 256 → f < 256 → g < 256 → h < 256
       → bit_or (bit_or (bit_or (bit_or (bit_or (bit_or (bit_or
       (a * 2 ^ 56 % 2 ^ 64) (b * 2 ^ 48 % 2 ^ 64)) (c * 2 ^ 40 % 2 ^ 64)) (d * 2 ^ 32 % 2 ^ 64))
       (e * 2 ^ 24 % 2 ^ 64)) (f * 2 ^ 16 % 2 ^ 64)) (g * 2 ^ 8 % 2 ^ 64)) h
       ≡ chained
-  or-eight ha hb hc hd he hf hg hh =
+  or_eight ha hb hc hd he hf hg hh =
       let x2 : ℕ = a * 256 + b in
       let x3 : ℕ = x2 * 256 + c in
       let x4 : ℕ = x3 * 256 + d in

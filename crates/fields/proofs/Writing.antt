@@ -13,15 +13,15 @@ use Rattle.fields.specs.Bits.{digits, row}
 use Rattle.fields.specs.Field.{over}
 use Rattle.fields.proofs.Numbers.{length_digits, digits_mod, digits_append, digits_joined}
 use Rattle.fields.proofs.Rows.{length_row, row_set, row_here}
-use Rattle.fields.proofs.Over.{over_part, over_all, over-over}
+use Rattle.fields.proofs.Over.{over_part, over_all, over_over}
 
 -- ---- the front of a byte
 
 -- bits replaced there are replaced in the row
-pub front-written
+pub front_written
     : (l : List ℕ) (i x : ℕ) (new : List Bool) → digits 8 x ≡ over (digits 8 (get_or l i 0)) 0 new → length new ≤ 8 → i < length l
     → row (set l i x) ≡ over (row l) (8 * i) new
-front-written l i x new e le h =
+front_written l i x new e le h =
     let d : List Bool = digits 8 (get_or l i 0) in
     let p : List Bool = row (take i l) in
     let s : List Bool = row (drop (suc i) l) in
@@ -61,7 +61,7 @@ module _ (b k v : ℕ) (hk : k ≤ 8) where
 
 byte_written : (l : List ℕ) (i x v : ℕ) → x ≡ v % 256 → i < length l → row (set l i x) ≡ over (row l) (8 * i) (digits 8 v)
 byte_written l i x v e h =
-    front-written l i x (digits 8 v)
+    front_written l i x (digits 8 v)
     (ap (digits 8) e ∙ digits_mod 8 v ∙ sym (over_all (digits 8 (get_or l i 0)) (digits 8 v) (simp length_digits)))
     (omega (arith, length_digits 8 v)) h
 
@@ -77,6 +77,6 @@ store_step l0 l place n left number i x len inv e h ex =
     let ld : length d ≡ n = length_digits n (number / 2 ^ (left + 8)) in
     byte_written l i x (number / 2 ^ left) ex h
     ∙ ap₂ (λ (r : List Bool) (p : ℕ). over r p new) inv e
-    ∙ over-over (row l0) place d new (place + n) (omega arith) (omega (arith, length_row l0))
+    ∙ over_over (row l0) place d new (place + n) (omega arith) (omega (arith, length_row l0))
     ∙ ap (over (row l0) place)
     (ap (λ (y : ℕ). digits n y ++ new) (sym (shr-shr number left 8)) ∙ sym (digits_append n 8 (number / 2 ^ left)))

@@ -17,12 +17,12 @@ use Rattle.clock.specs.Clock.{Permitted}
 use Rattle.clock.specs.Numbers.{END2}
 use Rattle.clock.specs.Update.{is_version3, end_of, has_synthetic, has_reference, has_rate, has_error, SameArguments, SameRequest}
 use Rattle.clock.specs.declared.Request.{Request}
-use Rattle.clock.proofs.Requests.{synthetic_inside, reference_inside, rate_permitted, same-through, same_beyond, same_wide}
+use Rattle.clock.proofs.Requests.{synthetic_inside, reference_inside, rate_permitted, same_through, same_beyond, same_wide}
 use Rattle.fields.specs.Bits.{row}
 use Rattle.fields.specs.Field.{field}
 use Rattle.fields.specs.Record.{fields}
 use Rattle.fields.proofs.Rows.{row_append}
-use Rattle.fields.proofs.Records.{fields-packed}
+use Rattle.fields.proofs.Records.{fields_packed}
 use Rattle.slip.specs.Layout.{header_width, header_of, word_of, bare, rate_field, rate_of, rate_field_end, widths_by, slip_length, layout_by, layout, is_needless, header_length}
 use Rattle.slip.specs.Reading.{headed, values_by, values_in, rate_in, padding_in, header_table_by, fields_table, front_table_by, front_table, request_of, taken, received, refused_by, strictly, reading_by, reading_front, reading_single}
 use Rattle.slip.specs.Writing.{in_slip, values_of, bytes_for, slip_of}
@@ -69,7 +69,7 @@ kept_same u w =
       known = version_is_known u w.word;
       other_known = version_is_known slip (slip_writable u w).word;
       flags = sym (slip_below u);
-      arguments = same-through u slip (kept slip) (sym (slip_below u)) (slip_kept u) (kept_arguments slip);
+      arguments = same_through u slip (kept slip) (sym (slip_below u)) (slip_kept u) (kept_arguments slip);
     }
 
 pub kept_writable : (u : Request) → Writable u → Writable (kept u)
@@ -115,7 +115,7 @@ module _ (u : Request) (w : Writable u) (needed : T (not (is_needless u))) (s : 
 
   values_there : fields bytes 0 (layout u) ≡ values_of u
   values_there =
-      fields-packed (layout u) (values_of u) bytes 0 [] (row rest) (values_of_fit u w s)
+      fields_packed (layout u) (values_of u) bytes 0 [] (row rest) (values_of_fit u w s)
       (row_append (bytes_for u) rest ∙ ap (λ (r : List Bool). r ++ row rest) (row_bytes u)) refl
 
   header_there : field bytes 0 header_width ≡ header_of u.word
@@ -171,14 +171,14 @@ module _ (u : Request) (w : Writable u) (needed : T (not (is_needless u))) (s : 
 
 -- ---- a slip, with any bytes behind it
 
-pub slip-front
+pub slip_front
     : (u : Request) → Writable u → Sized u → (rest : List ℕ) → reading_front (slip_of u ++ rest) ≡ taken (kept (in_slip u)) (slip_length (in_slip u))
 unfolding in_slip
-slip-front u w s rest = front_read (in_slip u) (slip_writable u w) (slip_needed u) s rest
+slip_front u w s rest = front_read (in_slip u) (slip_writable u w) (slip_needed u) s rest
 
 -- and alone
 pub slip_alone : (u : Request) → Writable u → Sized u → reading_front (slip_of u) ≡ taken (kept (in_slip u)) (slip_length (in_slip u))
-slip_alone u w s = ap reading_front (sym (append-nil (slip_of u))) ∙ slip-front u w s []
+slip_alone u w s = ap reading_front (sym (append-nil (slip_of u))) ∙ slip_front u w s []
 
 pub slip_read : (u : Request) → Writable u → Sized u → reading_single (slip_of u) ≡ taken (kept (in_slip u)) (slip_length (in_slip u))
 unfolding reading_single

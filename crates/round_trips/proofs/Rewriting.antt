@@ -136,10 +136,10 @@ takes u size w h =
     ∙ nothing_told (21 when ltb size (slip_length (in_slip u)) ∷ []) (no_ltb {a = size} {b = slip_length (in_slip u)} h, tt)
 
 -- the slip on the front, into a buffer with room for it
-pub front-rewritten
+pub front_rewritten
     : (bytes buffer : List ℕ) → Bytes bytes → (reading_front bytes).refusal ≡ 0 → (reading_front bytes).length ≤ length buffer
     → writing (reading_front bytes).request buffer ≡ copied (reading_front bytes).length bytes buffer
-front-rewritten bytes buffer hb accepted =
+front_rewritten bytes buffer hb accepted =
     let v = request_in bytes in
     let z = front_passed present bytes accepted in
     let its = in_its_version bytes z in

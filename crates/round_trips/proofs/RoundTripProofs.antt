@@ -10,7 +10,7 @@ use Rattle.tables.proofs.Tables.{answered, by_answer}
 use Rattle.tables.proofs.Tests.{is_false}
 use Rattle.clock.specs.Update.{values_outside, updating, SameRequest}
 use Rattle.clock.specs.declared.Request.{Request}
-use Rattle.clock.proofs.Requests.{same-through, same_back}
+use Rattle.clock.proofs.Requests.{same_through, same_back}
 use Rattle.demands.proofs.Unflagged.{ignores_version}
 use Rattle.slip.specs.Layout.{widths_by, length_by, slip_length}
 use Rattle.slip.specs.Reading.{headed, reading_front, reading_single}
@@ -23,7 +23,7 @@ use Rattle.slip.proofs.Fronts.{front_within, front_size}
 use Rattle.round_trips.specs.RoundTrips.{BackFrom, Sized, ReadsAs, ReadsBack, NeverShared, AlwaysShared, DoesTheSame, Rewritten, Measured, ReadLength, SingleLength, WrittenLength, TellsLength, Numbered}
 use Rattle.round_trips.proofs.Taken.{single_accepted, single_front, single_all, written_writable, written_room, written_slip, written_size}
 use Rattle.round_trips.proofs.Returning.{kept, kept_same, kept_back, kept_writable, slip_read}
-use Rattle.round_trips.proofs.Rewriting.{copied, copied_all, takes, front-rewritten}
+use Rattle.round_trips.proofs.Rewriting.{copied, copied_all, takes, front_rewritten}
 use Rattle.round_trips.proofs.AnswerProofs.{same_bytes}
 
 measured : (u : Request) (n : ℕ) → n ≡ slip_length u → Measured u n
@@ -98,7 +98,7 @@ pub rewritten : Rewritten
 rewritten bytes buffer hb accepted h =
     let all = read_all bytes accepted in
     ap (λ (r : Received). writing r.request buffer) (single_front bytes accepted)
-    ∙ front-rewritten bytes buffer hb (single_accepted bytes accepted) (omega (arith, all))
+    ∙ front_rewritten bytes buffer hb (single_accepted bytes accepted) (omega (arith, all))
     ∙ ap (λ (n : ℕ). copied n bytes buffer) all
     ∙ copied_all bytes buffer
 
@@ -110,7 +110,7 @@ joined u v w p q = record {
   known = p.known;
   other_known = q.known;
   flags = p.flags ∙ sym q.flags;
-  arguments = same-through u w v p.flags p.arguments (same_back v w q.flags q.arguments);
+  arguments = same_through u w v p.flags p.arguments (same_back v w q.flags q.arguments);
 }
 
 pub never_shared : NeverShared

@@ -23,8 +23,8 @@ use Rattle.slip.proofs.Writings.{Writable}
 use Rattle.round_trips.specs.Rows.{SlipUses, RefusedHandedBack, SlipKept, NoBytes, RowSteps, Stops, RowStops, followed_by, writing_row, RowRewritten, AllSized, SameRequests, RowReadsAs, RowReadsBack}
 use Rattle.round_trips.proofs.Fitting.{length_bytes}
 use Rattle.round_trips.proofs.Taken.{written_writable, written_slip, written_size}
-use Rattle.round_trips.proofs.Returning.{kept, kept_back, slip-front}
-use Rattle.round_trips.proofs.Rewriting.{copied, copied_all, front-rewritten}
+use Rattle.round_trips.proofs.Returning.{kept, kept_back, slip_front}
+use Rattle.round_trips.proofs.Rewriting.{copied, copied_all, front_rewritten}
 use Rattle.round_trips.proofs.Following.{headed_ahead, front_ahead}
 
 -- ---- one slip
@@ -85,10 +85,10 @@ row_stops = by_slips reading_front front_some front_within Stops none refused fu
 -- ---- read, then written
 
 -- two parts, one behind the other, are their sum
-both-copied
+both_copied
     : (n m : ℕ) (bytes buffer : List ℕ) → n ≤ length bytes
     → followed_by (copied n bytes buffer) (copied m (drop n bytes) (drop n buffer)) ≡ copied (n + m) bytes buffer
-both-copied n m bytes buffer h =
+both_copied n m bytes buffer h =
     ap {B = Outcome} (λ (l : List ℕ). record { refusal = 0; length = n + m; buffer = l })
     (ap (λ (l : List ℕ). l ++ (take m (drop n bytes) ++ drop m (drop n buffer))) (take_at (take n bytes) (drop n buffer) n (length-take-le n bytes h))
     ∙ sym (append_assoc (take n bytes) (take m (drop n bytes)) (drop m (drop n buffer)))
@@ -110,10 +110,10 @@ again = by_slips reading_front front_some front_within Again (λ buffer hb h. re
         let us = row.requests in
         let within = (slip_uses bytes accepted).1 in
         ap (λ (o : Outcome). answer_to o.refusal (followed_by o (writing_row us (drop o.length o.buffer))) (λ k. o))
-        (front-rewritten bytes buffer hb accepted (omega arith))
+        (front_rewritten bytes buffer hb accepted (omega arith))
         ∙ ap (λ (l : List ℕ). followed_by (copied n bytes buffer) (writing_row us l)) (drop_at (take n bytes) (drop n buffer) n (length-take-le n bytes within))
         ∙ ap (followed_by (copied n bytes buffer)) (again_behind (drop n buffer) (bytes_drop n bytes hb) (omega (arith, length-drop n buffer)))
-        ∙ both-copied n row.length bytes buffer within
+        ∙ both_copied n row.length bytes buffer within
 
 pub row_rewritten : RowRewritten
 row_rewritten bytes buffer hb accepted h =
@@ -138,7 +138,7 @@ row_reads [] w s = record { accepted = refl; same = tt }
 row_reads (u ∷ us) w s =
     let bytes = slips_of (u ∷ us) in
     let slip = in_slip u in
-    let e : reading_front bytes ≡ taken (kept slip) (slip_length slip) = slip-front u w.0 s.0 (slips_of us) in
+    let e : reading_front bytes ≡ taken (kept slip) (slip_length slip) = slip_front u w.0 s.0 (slips_of us) in
     let r : reading_row bytes ≡ ahead (taken (kept slip) (slip_length slip)) (reading_row (slips_of us)) =
     row_taken reading_front front_some front_within bytes (ap (λ (x : Received). x.refusal) e)
     ∙ ap (λ (x : Received). ahead x (reading_row (drop x.length bytes))) e

@@ -15,13 +15,13 @@ use Rattle.slip.specs.declared.Received.{Received}
 -- ---- the row reader
 
 -- number by number, and the rest from the end of the slip on
-pub next-told
+pub next_told
     : (bytes : Lent) (r : Received) {w : ℕ} {s p a : ℤ} {e n : ℕ} {rest : Part} → r ≡ reading_front bytes.now
     → w ≡ r.request.word → s ≡ r.request.synthetic → p ≡ r.request.reference → a ≡ r.request.rate → e ≡ r.request.error
     → n ≡ r.refusal → rest ≡ from r.length bytes
     → record { request = record { word = w; synthetic = s; reference = p; rate = a; error = e }; refusal = n; rest = rest } ≡ reading_next bytes
 unfolding reading_next
-next-told bytes r is hw hs hp ha he hn hr =
+next_told bytes r is hw hs hp ha he hn hr =
     rw (hw, hs, hp, ha, he, hn, hr)
     (ap {B = NextSlip} (λ (x : Received). record { request = x.request; refusal = x.refusal; rest = from x.length bytes }) is)
 

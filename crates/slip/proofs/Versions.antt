@@ -11,7 +11,7 @@ use Rattle.tables.proofs.Tests.{other}
 use Rattle.clock.specs.Numbers.{END, END2}
 use Rattle.clock.specs.Update.{version, is_version3, version_known, end_of, wrong_unless, word_wrong, values_beyond, values_outside, SameArguments, SameToTheWord}
 use Rattle.clock.specs.declared.Request.{Request}
-use Rattle.clock.proofs.Requests.{same-through, same_back, same_beyond, same_wide}
+use Rattle.clock.proofs.Requests.{same_through, same_back, same_beyond, same_wide}
 use Rattle.slip.specs.Layout.{fits_version2, is_needless}
 use Rattle.slip.specs.Writing.{slip_version, in_slip}
 use Rattle.slip.proofs.Writings.{Writable}
@@ -135,5 +135,5 @@ module _ (u v : Request) (below : u.word % 2 ^ 58 ≡ v.word % 2 ^ 58) (same : S
   slip_same = record {
     word = word_same;
     arguments =
-        same-through (in_slip u) u (in_slip v) (slip_below u) (slip_arguments u) (same-through u v (in_slip v) below same (slip_kept v));
+        same_through (in_slip u) u (in_slip v) (slip_below u) (slip_arguments u) (same_through u v (in_slip v) below same (slip_kept v));
   }

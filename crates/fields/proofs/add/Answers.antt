@@ -4,7 +4,7 @@ use native.Mathlib.Nat.{mod-lt}
 use lib.Pow.{pow_pos}
 use Rattle.fields.specs.Pending.{reach, merged}
 use Rattle.fields.proofs.Over.{over_no_digits}
-use Rattle.fields.proofs.Waiting.{sum_fits, added_short, Added-full}
+use Rattle.fields.proofs.Waiting.{sum_fits, added_short, added_full}
 use Rattle.fields.proofs.add.Goals as goal
 
 pub returns-then-width-eq0 : goal.returns-then-width-eq0
@@ -29,5 +29,5 @@ returns-then-count-lt64 c =
 pub returns : goal.returns
 returns c =
     let a = c.args in
-    Added-full a.buf.now a.pending a.width a.value c.requires.0 c.requires.2 c.requires.1
+    added_full a.buf.now a.pending a.width a.value c.requires.0 c.requires.2 c.requires.1
     c.store.new.buf (a.pending.count + a.width - 64) c.store.ensures (omega arith)

@@ -4,7 +4,7 @@ use native.Mathlib.Nat.{lt_of_lt_of_le}
 use lib.Pow.{pow_mono}
 use Rattle.fields.specs.Field.{field}
 use Rattle.fields.proofs.Reading.{field_lt}
-use Rattle.fields.proofs.Windows.{window-in, window-past}
+use Rattle.fields.proofs.Windows.{window_in, window_past}
 use Rattle.fields.proofs.get_of_many.Goals as goal
 
 pub returns-then-before-width-le64 : goal.returns-then-before-width-le64
@@ -12,7 +12,7 @@ returns-then-before-width-le64 c =
     let a = c.args in
     let i = c.window_start-first.result in
     ap (λ (x : ℕ). x * 2 ^ (a.place - 8 * i) % 2 ^ 64 / 2 ^ (64 - a.width)) c.eight-number.ensures
-    ∙ window-in a.bytes.now (8 * i) 64 a.place a.width (a.place - 8 * i) (omega arith) (omega arith) (omega arith) (omega arith)
+    ∙ window_in a.bytes.now (8 * i) 64 a.place a.width (a.place - 8 * i) (omega arith) (omega arith) (omega arith) (omega arith)
 
 pub returns : goal.returns
 returns c =
@@ -20,7 +20,7 @@ returns c =
     let i = c.window_start-first.result in
     let near : a.place < 8 * i + 8 = omega arith in
     ap₂ (λ (x y : ℕ). x * 2 ^ (a.place - 8 * i) % 2 ^ 64 / 2 ^ (64 - a.width) + y / 2 ^ (72 - (a.place - 8 * i) - a.width)) c.eight-number.ensures c.wide.ensures
-    ∙ window-past a.bytes.now i a.place a.width (omega arith) near (omega arith) (omega arith) (omega arith) (c.type_inv.bytes (i + 8)).fits
+    ∙ window_past a.bytes.now i a.place a.width (omega arith) near (omega arith) (omega arith) (omega arith) (c.type_inv.bytes (i + 8)).fits
 
 -- the sum is a field of at most 64 bits
 pub overflow_add-result : goal.overflow_add-result

@@ -4,7 +4,7 @@ use Rattle.fields.specs.Bits.{row}
 use Rattle.fields.specs.Pending.{reach, merged}
 use Rattle.fields.proofs.Rows.{length_row}
 use Rattle.fields.proofs.Waiting.{nothing_waits}
-use Rattle.fields.proofs.Turns.{total_more, total_le, narrow_at, packed_none, put-all-step}
+use Rattle.fields.proofs.Turns.{total_more, total_le, narrow_at, packed_none, put_all_step}
 use Rattle.fields.proofs.put_all.Goals as goal
 
 pub loop-i-init : goal.loop-i-init
@@ -41,7 +41,7 @@ loop-i-preserved c =
         ready = n.ensures.ready;
         reached = n.ensures.reached ∙ omega (arith, t.reached, total_more ws l.i (omega arith));
         merges =
-            put-all-step (row c.args.buf.now) (merged l.buf l.pending) (merged n.new.buf n.result) ws c.args.values.now l.i (reach l.pending)
+            put_all_step (row c.args.buf.now) (merged l.buf l.pending) (merged n.new.buf n.result) ws c.args.values.now l.i (reach l.pending)
             (omega arith) (omega arith) t.reached (omega (arith, length_row c.args.buf.now, c.requires.1.0))
             t.merges n.ensures.merges;
       };

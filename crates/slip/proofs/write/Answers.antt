@@ -6,7 +6,7 @@ use Rattle.clock.specs.declared.Request.{Request}
 use Rattle.slip.specs.Layout.{bare, slip_length}
 use Rattle.slip.specs.Writing.{in_slip, bytes_for, writing_table, filled, untouched, writing}
 use Rattle.slip.proofs.Layouts.{length_alike}
-use Rattle.slip.proofs.Writings.{taken, writing-taken}
+use Rattle.slip.proofs.Writings.{taken, writing_taken}
 use Rattle.slip.proofs.Versions.{slip_writable}
 use Rattle.slip.proofs.write.Goals as goal
 
@@ -24,7 +24,7 @@ returns-then-refusal-eq0 c =
     let u = c.args.request in
     let l = c.args.buffer.now in
     let is = c.in_slip-slip.ensures in
-    writing-taken u l _ _ _ (sym c.writing_refusal-refusal.ensures ∙ c.if-refusal-eq0.true) c.if-refusal-eq0.true
+    writing_taken u l _ _ _ (sym c.writing_refusal-refusal.ensures ∙ c.if-refusal-eq0.true) c.if-refusal-eq0.true
     (c.length_of-length.ensures ∙ length_alike (bare c.in_slip-slip.result.word) (in_slip u) (ap (λ (v : Request). v.word) is))
     (c.write_slip.ensures ∙ ap (λ (v : Request). bytes_for v ++ drop (slip_length v) l) is)
 

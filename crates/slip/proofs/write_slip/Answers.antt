@@ -8,7 +8,7 @@ use Rattle.slip.specs.Writing.{values_of}
 use Rattle.slip.specs.Parts.{sizes}
 use Rattle.slip.specs.declared.Sizes.{Sizes}
 use Rattle.slip.proofs.Layouts.{layout_inside, sizes_alike}
-use Rattle.slip.proofs.Writings.{slip-written}
+use Rattle.slip.proofs.Writings.{slip_written}
 use Rattle.slip.proofs.write_slip.Goals as goal
 
 -- there is a value for each field
@@ -33,6 +33,6 @@ returns c =
     let u = c.args.request in
     let old = c.args.buffer.now in
     let before : Bytes old = λ i. search rules in
-    slip-written u old c.put_all.new.buf before (λ i. (c.type_inv.buffer i).fits) c.requires.2
+    slip_written u old c.put_all.new.buf before (λ i. (c.type_inv.buffer i).fits) c.requires.2
     (c.put_all.ensures
     ∙ ap₂ (λ (l v : List ℕ). over (row old) 0 (packed l v)) (laid u c.sizes_of-sizes.result c.sizes_of-sizes.ensures) c.values_of-values.ensures)
