@@ -162,6 +162,7 @@ pub fn header_bits_in(size: usize) -> usize
 }
 
 // What the header of these bytes calls for, which was taken from their front. The sizes are worked out here, once.
+#[tactic(auto, using(crate::proofs::Openings::open_none))]
 pub fn opening_of(bytes: &[u8], header: u64) -> Opened
     requires { header ≡ header_in bytes.now }
     ensures { result ≡ opening bytes.now }

@@ -8,7 +8,7 @@ use Rattle.slip.specs.Parts.{header_in, sizes}
 use Rattle.slip.specs.declared.Sizes.{Sizes}
 use Rattle.slip.specs.declared.Opened.{Opened}
 use Rattle.slip.proofs.Layouts.{sizes_alike}
-use Rattle.slip.proofs.Openings.{header_whole, header_word, open_none, open_word, open_few, open_taken}
+use Rattle.slip.proofs.Openings.{header_whole, header_word, open_word, open_few, open_taken}
 use Rattle.slip.proofs.opening_of.Goals as goal
 
 -- ---- what each step says of the bytes: the header is there, its word is known, the bytes are enough
@@ -26,19 +26,16 @@ module _ (bytes : List ℕ) (some : header_length ≤ length bytes) (header : �
 
 -- ---- the goals
 
-pub returns-then-bytes-lt-HEADER_LENGTH : goal.returns-then-bytes-lt-HEADER_LENGTH
-returns-then-bytes-lt-HEADER_LENGTH c = c.refused_opening.ensures ∙ open_none c.args.bytes.now c.if-bytes-lt-HEADER_LENGTH.true
-
 pub overflow_mul-header : goal.overflow_mul-header
 overflow_mul-header c =
     let l = c.args.bytes.now in
-    let some = c.if-bytes-lt-HEADER_LENGTH.false in
+    let some : header_length ≤ length l = omega arith in
     record { fits = omega (arith, c.requires, header_whole l some, field_lt l 0 header_width (omega (arith, some))) }
 
 pub returns-then-word_wrong : goal.returns-then-word_wrong
 returns-then-word_wrong c =
     let l = c.args.bytes.now in
-    let some = c.if-bytes-lt-HEADER_LENGTH.false in
+    let some : header_length ≤ length l = omega arith in
     c.refused_opening-then-word_wrong.ensures
     ∙ open_word l some
     (tested l some c.args.header c.requires c.bare-asked.result c.bare-asked.ensures ∙ sym c.word_wrong.ensures ∙ c.if-word_wrong.true)
@@ -46,7 +43,7 @@ returns-then-word_wrong c =
 pub returns-then-bytes-sizes : goal.returns-then-bytes-sizes
 returns-then-bytes-sizes c =
     let l = c.args.bytes.now in
-    let some = c.if-bytes-lt-HEADER_LENGTH.false in
+    let some : header_length ≤ length l = omega arith in
     let u = c.bare-asked.result in
     let known = tested l some c.args.header c.requires u c.bare-asked.ensures ∙ sym c.word_wrong.ensures ∙ c.if-word_wrong.false in
     let is = sized l some c.args.header c.requires u c.bare-asked.ensures c.sizes_of-sizes.result c.sizes_of-sizes.ensures in
@@ -56,7 +53,7 @@ returns-then-bytes-sizes c =
 pub returns : goal.returns
 returns c =
     let l = c.args.bytes.now in
-    let some = c.if-bytes-lt-HEADER_LENGTH.false in
+    let some : header_length ≤ length l = omega arith in
     let u = c.bare-asked.result in
     let asked = asks l some c.args.header c.requires u c.bare-asked.ensures in
     let known = tested l some c.args.header c.requires u c.bare-asked.ensures ∙ sym c.word_wrong.ensures ∙ c.if-word_wrong.false in
