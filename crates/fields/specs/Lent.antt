@@ -3,7 +3,7 @@
 use Rattle.std.specs.Prelude.{List, ℕ, ◌+◌, drop}
 use Rattle.std.specs.Borrow.{Bor}
 
--- lent bytes: where they start in memory (`ptr`: in which object, and at which byte of it), and what they are (`now`)
+-- lent bytes: where they start in memory (`ref_ptr`: in which object, and at which byte of it), and what they are (`now`)
 abbrev pub Lent : Type 0
 Lent = Bor (List ℕ)
 
