@@ -7,7 +7,7 @@ use Prim.Native.Nat.{ℕ}
 use lib.Dec.{T, eqb}
 use Rattle.tables.specs.Tables.{Row, ◌when◌, first, Settled}
 use Rattle.tables.proofs.Tests.{is_false}
-use Rattle.tables.proofs.Tables.{numbered, lacks, never_told, first_passed, first_refused}
+use Rattle.tables.proofs.Tables.{numbered, lacks, never_told, first_passed}
 use Rattle.clock.specs.Taken.{is_clock, NOT_A_CLOCK, guarded}
 use Rattle.clock.specs.declared.Clock.{Clock}
 
@@ -43,11 +43,6 @@ guarded_passed c rows e = go (is_clock c) (λ t. t) e
 -- ---- a table in two parts behind the row
 
 module _ (c : Clock) (front rows : List Row) where
-  -- a refusal of the first part stands
-  pub front_stands : (first (guarded c front) ≡ 0 → ⊥) → first (guarded c (front ++ rows)) ≡ first (guarded c front)
-  unfolding guarded
-  front_stands h = first_refused (guarded c front) rows h
-
   -- the second part decides where the first lets pass
   pub rest_decides : T (numbered front) → first (guarded c front) ≡ 0 → first (guarded c (front ++ rows)) ≡ first rows
   unfolding guarded

@@ -15,14 +15,13 @@ use Rattle.line.specs.Numbers.{million, outside}
 use Rattle.line.specs.Line.{line, value_at, turned, Computable}
 use Rattle.line.specs.Value.{placed, is_under, is_over, is_less, held, is_beyond, line_or}
 use Rattle.line.specs.declared.Line.{Line}
-use Rattle.line.specs.declared.Redrawn.{Redrawn}
-use Rattle.line.specs.declared.Redrawn.TheVariants.{Drawn}
+use Rattle.std.specs.Prelude.{Option, Some}
 use Rattle.line.proofs.Placed.{drawn_in, under_law, over_law, less_law, beyond_law, line_or_keeps}
 use Rattle.line.proofs.Linear.{≤ℤ_trans}
 use Rattle.line.proofs.Laws.{turned_reference, turned_remainder, turned_rate}
 use Rattle.clock.specs.Numbers.{END, time_outside}
 use Rattle.clock.specs.Clock.{monotonic, is_running, old_line, time_table, InRange, Permitted, Drawable, Valid}
-use Rattle.clock.specs.Update.{has_synthetic, has_rate, replaces, values_outside, rate_too_wide, point, effect, new_line, request_table, new_line_table, update_table}
+use Rattle.clock.specs.Update.{has_synthetic, has_rate, replaces, values_outside, rate_too_wide, point, effect, new_line, alone_table, allowed_table, request_table, new_line_table, update_table}
 use Rattle.clock.specs.Taken.{is_clock, guarded}
 use Rattle.clock.specs.Parts.{Judged}
 use Rattle.clock.specs.declared.Clock.{Clock}
@@ -41,7 +40,7 @@ pub record Asked (c : Clock) (u : Request) (now : ℤ) : Type 0 where
 
 module _ (c : Clock) (u : Request) (now : ℤ) (e : first (guarded c (request_table c u now)) ≡ 0) where
   pub asked : Asked c u now
-  unfolding request_table time_table
+  unfolding alone_table allowed_table request_table time_table
   asked =
       let rows = request_table c u now in
       let p = guarded_passed c rows e in
@@ -49,7 +48,7 @@ module _ (c : Clock) (u : Request) (now : ℤ) (e : first (guarded c (request_ta
 
   -- then the rows of the new line decide
   pub line_decides : first (guarded c (update_table c u now)) ≡ first (new_line_table c u now)
-  unfolding update_table request_table time_table
+  unfolding update_table alone_table allowed_table request_table time_table
   line_decides = rest_decides c (request_table c u now) (new_line_table c u now) tt e
 
 -- ---- the effect table
@@ -79,7 +78,7 @@ effect_kept false true T₀ P S new n = absurd n
 effect_kept false false T₀ P S new n = refl
 
 -- a value in range is drawn
-pub set_drawn : (a : Bool) (T₀ : Line) (P S new : ℤ) → InRange S → Drawn (line P S 0 (cond a new T₀.rate)) ≡ held (effect true a T₀ P S new)
+pub set_drawn : (a : Bool) (T₀ : Line) (P S new : ℤ) → InRange S → Some (line P S 0 (cond a new T₀.rate)) ≡ held (effect true a T₀ P S new)
 unfolding effect
 set_drawn true T₀ P S new i = sym (drawn_in (line P S 0 new) (range_storable i))
 set_drawn false T₀ P S new i = sym (drawn_in (line P S 0 T₀.rate) (range_storable i))
@@ -88,7 +87,7 @@ pub turned_drawn : (T₀ : Line) (P S new : ℤ) → held (turned T₀ P new) �
 unfolding effect
 turned_drawn T₀ P S new = refl
 
-pub kept_drawn : (T₀ : Line) (P S new : ℤ) → Drawable T₀ → Drawn T₀ ≡ held (effect false false T₀ P S new)
+pub kept_drawn : (T₀ : Line) (P S new : ℤ) → Drawable T₀ → Some T₀ ≡ held (effect false false T₀ P S new)
 unfolding effect
 kept_drawn T₀ P S new o = sym (drawn_in T₀ (range_storable o.synthetic))
 
@@ -114,7 +113,7 @@ module _ (c : Clock) (u : Request) (now : ℤ) where
       (computable (old_drawable c v))
 
   pub found_new : InRange new.synthetic → line_or (held new) (old_line c) ≡ new
-  found_new i = ap (λ (r : Redrawn). line_or r (old_line c)) (drawn_in new (range_storable i))
+  found_new i = ap (λ (r : Option Line). line_or r (old_line c)) (drawn_in new (range_storable i))
 
   -- what rule 12 lets pass begins in the range
   pub passed_in_range : Valid c → T (not (replaces u && (time_outside new.synthetic || lt_z END (value_at new now)))) → InRange new.synthetic
@@ -125,7 +124,7 @@ module _ (c : Clock) (u : Request) (now : ℤ) where
 -- ---- rules 12 to 14
 
 -- as the code judges them: by the line as it was drawn, and the value of the line that stands for it
-abbrev pub judged_table : Clock → Request → ℤ → Redrawn → Line → Line → List Row
+abbrev pub judged_table : Clock → Request → ℤ → Option Line → Line → Line → List Row
 judged_table c u now redrawn l old =
     let new_value = placed (value_at l now) in
     (12 when (replaces u && (is_beyond redrawn END || is_over new_value END))
@@ -188,7 +187,7 @@ module _ (c : Clock) (u : Request) (now : ℤ) (v : Valid c) where
     ),
   )
 
-pub judged_first : (c : Clock) (u : Request) (now : ℤ) (redrawn : Redrawn) (l old : Line) → Judged c u now redrawn l old →
+pub judged_first : (c : Clock) (u : Request) (now : ℤ) (redrawn : Option Line) (l old : Line) → Judged c u now redrawn l old →
     first (judged_table c u now redrawn l old) ≡ first (new_line_table c u now)
 judged_first c u now redrawn l old j =
     rw (j.line, j.before, j.drawn) (first_alike (judged_table c u now (held (new_line c u now)) _ (old_line c)) (new_line_table c u now) (judged_alike c u now j.clock))

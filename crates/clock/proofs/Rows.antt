@@ -13,7 +13,7 @@ use Rattle.clock.specs.Numbers.{END, time_outside, step_outside}
 use Rattle.clock.specs.Clock.{is_running, monotonic, continuous, old_line, time_table}
 use Rattle.clock.specs.Taken.{is_clock, NOT_A_CLOCK, guarded}
 use Rattle.clock.specs.Reading.{reading_table, reading}
-use Rattle.clock.specs.Update.{has_synthetic, has_reference, has_rate, replaces, values_outside, rate_too_wide, new_line, request_table, new_line_table, update_table, updated, updating}
+use Rattle.clock.specs.Update.{has_synthetic, has_reference, has_rate, replaces, values_outside, rate_too_wide, new_line, alone_table, allowed_table, request_table, new_line_table, update_table, updated, updating}
 use Rattle.clock.specs.Details.{details_table, detailing}
 use Rattle.clock.specs.Calls.{Call, update, ask, read, details, ask_table, call_table, refusal_of, accepted, after}
 use Rattle.clock.specs.declared.Clock.{Clock}
@@ -46,7 +46,7 @@ call_passed c k t = guarded_passed c (call_table c k) (call_unrefused c k t)
 
 -- no table of the paper's has the number of our own
 pub call_lacks : (c : Clock) (k : Call) → T (lacks NOT_A_CLOCK (call_table c k))
-unfolding call_table ask_table time_table request_table new_line_table update_table reading_table details_table
+unfolding call_table ask_table time_table alone_table allowed_table request_table new_line_table update_table reading_table details_table
 call_lacks c (update u now) = tt
 call_lacks c (ask (read now)) = tt
 call_lacks c (ask (details now)) = tt
@@ -78,7 +78,7 @@ pub record Passed (c : Clock) (u : Request) (now : ℤ) : Type 0 where
   pub row14 : T (not (replaces u && (monotonic c.word && is_running c && lt_z (value_at (new_line c u now) now) (value_at (old_line c) now))))
 
 pub passed_rows : (c : Clock) (u : Request) (now : ℤ) → T (accepted c (update u now)) → Passed c u now
-unfolding time_table request_table new_line_table update_table call_table
+unfolding time_table alone_table allowed_table request_table new_line_table update_table call_table
 passed_rows c u now t =
     let fetched : (k : ℕ) → T (not (test k (update_table c u now))) = λ k. passed k (update_table c u now) tt (call_passed c (update u now) t).1 in
     record {

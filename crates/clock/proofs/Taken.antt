@@ -9,19 +9,19 @@ use lib.Dec.{T, eqb, leb, ltb, leb→le, eqb→eq, ltb→lt, lt→ltb}
 use mir.Facts.{and_yes, yes_and}
 use Rattle.tables.proofs.Tests.{is_false, if_true, if_false, by_cases}
 use Rattle.tables.proofs.Tables.{test, passed, nothing_told}
-use Rattle.line.specs.Line.{value_at, is_zeros, bounded, reaches}
+use Rattle.line.specs.Line.{value_at, is_zeros, bounded, reaches, Computable}
 use Rattle.line.specs.declared.Line.{Line}
 use Rattle.line.proofs.Linear.{≤ℤ_trans}
 use Rattle.line.proofs.Tests.{four}
 use Rattle.line.proofs.Laws.{value_identity, reaches_early, zeros_are}
 use Rattle.line.specs.Numbers.{million, outside}
 use Rattle.clock.specs.Numbers.{END, MAX_RATE, time_outside, rate_outside}
-use Rattle.clock.specs.Clock.{auto_start, is_running, byte_of, identity, Drawable, Valid}
+use Rattle.clock.specs.Clock.{auto_start, is_running, byte_of, identity, InRange, Drawable, Valid}
 use Rattle.clock.specs.Creation.{creation_table, creation_refusal, created, UNKNOWN_ERROR, FIRST_GENERATION}
 use Rattle.clock.specs.Taken.{drawable, may_run, as_created, is_clock, zero_clock}
 use Rattle.clock.specs.Parts.{clearly_runs}
 use Rattle.clock.specs.declared.Clock.{Clock}
-use Rattle.clock.proofs.Ranges.{not_less, not_below, inside, in_range, permitted, rises}
+use Rattle.clock.proofs.Ranges.{not_less, not_below, inside, in_range, permitted, rises, computable}
 use Rattle.clock.proofs.Requests.{identity_drawable}
 use Rattle.clock.proofs.Creations.{created_row1, created_row16, created_row17}
 
@@ -58,6 +58,21 @@ drawable_line l t =
       remainder = ltb→lt l.remainder million parts.2;
       rate = permitted l.rate parts.3;
     }
+
+-- what the code's tests of a line and of creation's numbers are for
+pub bounded_computable : (l : Line) → bounded l END MAX_RATE ≡ true → Computable l
+unfolding drawable
+bounded_computable l e = computable (drawable_line l (subst⁻¹ T e tt))
+
+module _ (c : Clock) (e : eqb (creation_refusal c.word c.backstop c.latest) 0 ≡ true) where
+  creatable : creation_refusal c.word c.backstop c.latest ≡ 0
+  creatable = eqb→eq (creation_refusal c.word c.backstop c.latest) 0 (subst⁻¹ T e tt)
+
+  pub creatable_latest : InRange c.latest
+  creatable_latest = in_range c.latest (created_row1 c.word c.backstop c.latest creatable)
+
+  pub creatable_backstop : InRange c.backstop
+  creatable_backstop = in_range c.backstop (created_row16 c.word c.backstop c.latest creatable)
 
 pub line_drawable : (l : Line) → Drawable l → T (drawable l)
 unfolding drawable bounded time_outside rate_outside

@@ -1,13 +1,13 @@
 -- Creation: its refusals, the clock it gives, and its whole answer.
-use Rattle.std.specs.Prelude.{Bool, not, ◌&&◌, List, [], ◌∷◌, ℕ, ◌-◌, ◌/◌, ◌%◌, ◌^◌, ℤ, eqb}
+use Rattle.std.specs.Prelude.{Bool, not, ◌&&◌, List, [], ◌∷◌, ℕ, ◌-◌, ◌/◌, ◌%◌, ◌^◌, ℤ, eqb, Result, Ok, Err}
 use Rattle.std.proofs.Math.Option.{Option, none, some}
 use Rattle.std.specs.Int.Signed.{lt_z}
 use Rattle.tables.specs.Tables.{Row, ◌when◌, first, answer}
 use Rattle.clock.specs.Numbers.{time_outside}
 use Rattle.clock.specs.Clock.{monotonic, continuous, auto_start, byte_of, identity}
 use Rattle.clock.specs.declared.Clock.{Clock}
-use Rattle.clock.specs.declared.Created.{Created}
-use Rattle.clock.specs.declared.Created.TheVariants.{Made, Refused}
+use Rattle.tables.specs.Refusals.{number}
+use Rattle.tables.specs.declared.Refusal.{Refusal}
 
 -- no bit of the 8-bit word is set but those of the three flags
 abbrev pub others_zero : ℕ → Bool
@@ -57,7 +57,7 @@ creating word backstop now =
     (record { refusal = 0; clock = some (created word backstop now) })
     (λ n. record { refusal = n; clock = none })
 
--- what each case of the enum that creation returns stands for
-abbrev pub told : Created → Creation
-told (Made c) = record { refusal = 0; clock = some c }
-told (Refused n) = record { refusal = n; clock = none }
+-- what each case of the result that creation returns stands for
+abbrev pub told : Result Clock Refusal → Creation
+told (Ok c) = record { refusal = 0; clock = some c }
+told (Err r) = record { refusal = number r; clock = none }

@@ -1,6 +1,8 @@
 -- The details at now, and whether the clock is started.
-use Rattle.std.specs.Prelude.{Bool, false, cond, ◌&&◌, List, ℤ, pos}
+use Rattle.std.specs.Prelude.{Bool, false, cond, ◌&&◌, List, ℤ, pos, Result, Ok, Err}
 use Rattle.tables.specs.Tables.{Row, answer}
+use Rattle.tables.specs.Refusals.{number}
+use Rattle.tables.specs.declared.Refusal.{Refusal}
 use Rattle.line.specs.Line.{zero_line}
 use Rattle.clock.specs.Clock.{is_running, time_table}
 use Rattle.clock.specs.Taken.{is_clock, guarded}
@@ -47,3 +49,8 @@ detailing c now =
     answer (guarded c (details_table c now))
     (record { refusal = 0; details = details_of c now })
     (λ n. record { refusal = n; details = zero_details })
+
+-- what each case of the result that details return stands for
+abbrev pub details_told : Result Details Refusal → Detailed
+details_told (Ok details) = record { refusal = 0; details = details }
+details_told (Err r) = record { refusal = number r; details = zero_details }

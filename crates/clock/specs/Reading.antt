@@ -1,7 +1,9 @@
 -- Reading the clock at now.
-use Rattle.std.specs.Prelude.{cond, List, [], ◌∷◌, ◌++◌, ℤ, pos}
+use Rattle.std.specs.Prelude.{cond, List, [], ◌∷◌, ◌++◌, ℤ, pos, Result, Ok, Err}
 use Rattle.std.specs.Int.Signed.{lt_z}
 use Rattle.tables.specs.Tables.{Row, ◌when◌, answer}
+use Rattle.tables.specs.Refusals.{number}
+use Rattle.tables.specs.declared.Refusal.{Refusal}
 use Rattle.line.specs.Line.{value_at}
 use Rattle.clock.specs.Numbers.{END}
 use Rattle.clock.specs.Clock.{is_running, time_table}
@@ -23,3 +25,8 @@ reading c now =
     answer (guarded c (reading_table c now))
     (record { refusal = 0; value = clock_value c now })
     (λ n. record { refusal = n; value = pos 0 })
+
+-- what each case of the result that a reading returns stands for
+abbrev pub reading_told : Result ℤ Refusal → Reading
+reading_told (Ok value) = record { refusal = 0; value = value }
+reading_told (Err r) = record { refusal = number r; value = pos 0 }

@@ -1,7 +1,9 @@
 -- Updates: the word, the new line, the refusals, and what an accepted update leaves.
-use Rattle.std.specs.Prelude.{Bool, true, false, not, cond, ◌&&◌, ◌||◌, List, [], ◌∷◌, ◌++◌, ℕ, ◌+◌, ◌/◌, ◌%◌, ◌^◌, ℤ, pos, ◌-ℤ◌, T, eqb, ◌≡◌}
+use Rattle.std.specs.Prelude.{Bool, true, false, not, cond, ◌&&◌, ◌||◌, List, [], ◌∷◌, ◌++◌, ℕ, ◌+◌, ◌/◌, ◌%◌, ◌^◌, ℤ, pos, ◌-ℤ◌, T, eqb, ◌≡◌, Result, Ok, Err}
 use Rattle.std.specs.Int.Signed.{lt_z}
 use Rattle.tables.specs.Tables.{Row, ◌when◌, answer}
+use Rattle.tables.specs.Refusals.{number}
+use Rattle.tables.specs.declared.Refusal.{Refusal}
 use Rattle.line.specs.Numbers.{outside}
 use Rattle.line.specs.Line.{line, value_at, turned}
 use Rattle.line.specs.declared.Line.{Line}
@@ -95,24 +97,31 @@ new_line c u now = effect (has_synthetic u) (has_rate u) (old_line c) (point u n
 
 -- ---- the refusals
 
--- the table of 01, 'When the clock says no', row by row, with R-9's row of 02 behind 11. First the rows of time,
--- request and clock
-unfoldable pub request_table : Clock → Request → ℤ → List Row
-request_table c u now =
-    let is_monotonic = monotonic c.word in
-    let is_continuous = continuous c.word in
-    time_table c now ++
+-- the table of 01, 'When the clock says no', row by row, with R-9's row of 02 behind 11. Behind the rows of time stand
+-- those of the request alone
+unfoldable pub alone_table : Request → List Row
+alone_table u =
     (3 when word_wrong u
     ∷ 4 when not (has_synthetic u || has_reference u || has_rate u || has_error u)
     ∷ 5 when values_outside u
     ∷ 6 when rate_too_wide u
     ∷ 7 when (has_reference u && not (has_synthetic u || has_rate u))
-    ∷ 8 when (not (is_running c) && not (has_synthetic u))
+    ∷ [])
+
+-- and those of what the clock allows
+unfoldable pub allowed_table : Clock → Request → List Row
+allowed_table c u =
+    let is_monotonic = monotonic c.word in
+    let is_continuous = continuous c.word in
+    (8 when (not (is_running c) && not (has_synthetic u))
     ∷ 9 when (is_continuous && has_reference u)
     ∷ 10 when (is_continuous && is_running c && has_synthetic u)
     ∷ 11 when (is_monotonic && is_running c && has_synthetic u && has_rate u)
     ∷ 22 when (is_running c && (has_rate u && step_outside (u.rate -ℤ c.line.rate)))
     ∷ [])
+
+unfoldable pub request_table : Clock → Request → ℤ → List Row
+request_table c u now = time_table c now ++ alone_table u ++ allowed_table c u
 
 -- then those that judge a new line; a line that stays is not asked
 unfoldable pub new_line_table : Clock → Request → ℤ → List Row
@@ -152,6 +161,11 @@ updating c u now =
     answer (guarded c (update_table c u now))
     (record { clock = updated c u now; refusal = 0 })
     (λ n. record { clock = c; refusal = n })
+
+-- what each case of the result that carries the clock on stands for
+abbrev pub update_told : Clock → Result Clock Refusal → Updated
+update_told c (Ok after) = record { clock = after; refusal = 0 }
+update_told c (Err r) = record { clock = c; refusal = number r }
 
 -- ---- requests that ask for the same
 

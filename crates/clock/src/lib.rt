@@ -3,21 +3,24 @@
 
 ghost use Rattle.std.specs.Prelude.{◌≡◌, not, cond, ◌/◌, ◌%◌, ◌<◌, T, eqb};
 ghost use Rattle.tables.specs.Tables.{first};
+ghost use Rattle.tables.specs.Refusals.{refusal_of};
 ghost use Rattle.line.specs.Line.{zero_line};
-ghost use Rattle.line.specs.Value.{placed, held};
-ghost use Rattle.clock.specs.Clock.{byte_of, identity, old_line, time_table, InRange, Drawable, Valid};
+ghost use Rattle.line.specs.Value.{placed, held, is_beyond};
+ghost use Rattle.clock.specs.Numbers.{END};
+ghost use Rattle.clock.specs.Clock.{identity, old_line, time_table, InRange, Drawable, Valid};
 ghost use Rattle.clock.specs.Creation.{creation_table, created, creating, told};
 ghost use Rattle.clock.specs.Taken.{is_clock, guarded, zero_clock};
-ghost use Rattle.clock.specs.Reading.{clock_value, reading};
-ghost use Rattle.clock.specs.Update.{values_outside, point, effect, has_synthetic, has_rate, new_line, request_table, new_line_table, next_generation, updated, updating};
-ghost use Rattle.clock.specs.Details.{is_started, details_of, zero_details, detailing};
+ghost use Rattle.clock.specs.Reading.{clock_value, reading, reading_told};
+ghost use Rattle.clock.specs.Update.{values_outside, effect, has_synthetic, has_rate, new_line, request_table, allowed_table, new_line_table, updated, updating, update_told};
+ghost use Rattle.clock.specs.Details.{is_started, details_of, detailing, details_told};
 ghost use Rattle.clock.specs.Parts.{Judged, read_of};
 
 mod arguments;
 mod check;
 
-use line::{Line, Redrawn, Value};
-use tables::{next, refusal};
+use arguments::flagged_or;
+use line::{Line, Value};
+use tables::{Refusal, refuse_if};
 
 // A clock, as creation gave it and accepted updates carried it on. A caller in another language may fill it with any
 // numbers, so each operation first tests whether they are a clock's. The byte started is 1 once the clock is started,
@@ -36,7 +39,7 @@ pub struct Clock {
 
 // An update's word and arguments. The word's flags say which arguments count.
 #[repr(C)]
-#[derive(Clone, Copy)]
+#[derive(Clone, Copy, Default)]
 pub struct Request {
     pub word: u64,
     pub synthetic: i64,
@@ -54,14 +57,8 @@ pub struct Flags {
     pub error: bool,
 }
 
-// What creation answers: a clock, or the number of a refusal and no clock.
-#[derive(Clone, Copy)]
-pub enum Created {
-    Made(Clock),
-    Refused(u8),
-}
-
-// The clock that an update leaves; beside a refusal it is the one that was handed in. Refusal 0 is none.
+// The clock that an update leaves; beside a refusal's number it is the one that was handed in. 0 stands for none. 01
+// names this form ('Places and their forms').
 #[repr(C)]
 #[derive(Clone, Copy)]
 pub struct Updated {
@@ -69,7 +66,7 @@ pub struct Updated {
     pub refusal: u8,
 }
 
-// A reading, 0 where it is refused.
+// A reading as callers in C are told it: 0 beside a refusal's number, and beside a reading 0 for none.
 #[repr(C)]
 #[derive(Clone, Copy)]
 pub struct Reading {
@@ -77,9 +74,23 @@ pub struct Reading {
     pub value: i64,
 }
 
+impl From<Result<i64, Refusal>> for Reading {
+    ghost from_gives = { λ answer reading. reading ≡ reading_told answer };
+
+    fn from(answer: Result<i64, Refusal>) -> Reading {
+        match answer {
+            Ok(value) => Reading { refusal: 0, value },
+            Err(refusal) => Reading {
+                refusal: refusal.number(),
+                value: 0,
+            },
+        }
+    }
+}
+
 // What a clock tells of itself at a time.
 #[repr(C)]
-#[derive(Clone, Copy)]
+#[derive(Clone, Copy, Default)]
 pub struct Details {
     pub started: bool,
     pub line: Line,
@@ -91,30 +102,29 @@ pub struct Details {
     pub now: i64,
 }
 
-impl Details {
-    pub fn zeros() -> Details
-        ensures { result ≡ zero_details }
-    {
-        let line = Line::zeros();
-        Details {
-            started: false,
-            line,
-            error: 0,
-            generation: 0,
-            latest: 0,
-            word: 0,
-            backstop: 0,
-            now: 0,
-        }
-    }
-}
-
-// Details beside their refusal, which leaves them zeros.
+// Details as callers in C are told them: zeros beside a refusal's number.
 #[repr(C)]
 #[derive(Clone, Copy)]
 pub struct Detailed {
     pub refusal: u8,
     pub details: Details,
+}
+
+impl From<Result<Details, Refusal>> for Detailed {
+    ghost from_gives = { λ answer detailed. detailed ≡ details_told answer };
+
+    fn from(answer: Result<Details, Refusal>) -> Detailed {
+        match answer {
+            Ok(details) => Detailed {
+                refusal: 0,
+                details,
+            },
+            Err(refusal) => Detailed {
+                refusal: refusal.number(),
+                details: Details::default(),
+            },
+        }
+    }
 }
 
 impl Clock {
@@ -142,25 +152,19 @@ impl Clock {
 
     pub const AUTO_START: u8 = 32;
 
-    // The line of a clock that starts at creation.
+    // The line of a clock that starts at creation: 0 at 0, with no remainder and the rate 0.
     pub fn identity_line() -> Line
         ensures { result ≡ identity }
     {
-        Line {
-            reference: 0,
-            synthetic: 0,
-            remainder: 0,
-            rate: 0,
-        }
+        Line::default()
     }
 
-    // Zeros, which are no clock: they stand where a struct must hold one and there is none.
+    // Zeros, which are no clock, and so no `Default`: they stand where a struct must hold one and there is none.
     pub fn zeros() -> Clock
         ensures { result ≡ zero_clock }
     {
-        let line = Line::zeros();
         Clock {
-            line,
+            line: Line::default(),
             backstop: 0,
             latest: 0,
             error: 0,
@@ -170,23 +174,19 @@ impl Clock {
         }
     }
 
-    // A clock, or a refusal. With auto start it runs at once.
-    pub fn create(word: u8, backstop: i64, now: i64) -> Created
+    // A clock. With auto start it runs at once.
+    #[tactic(auto, using(tables::proofs::Refusals::answer_taken, tables::proofs::Refusals::answer_refused), unfolding(crate::specs::Creation::creating))]
+    pub fn create(word: u8, backstop: i64, now: i64) -> Result<Clock, Refusal>
         ensures { told result ≡ creating word backstop now }
     {
-        let refusal = creation_refusal(word, backstop, now);
-        if refusal == 0 {
-            let clock = new_clock(word, backstop, now);
-            Created::Made(clock)
-        } else {
-            Created::Refused(refusal)
-        }
+        creation_refusal(word, backstop, now)?;
+        Ok(new_clock(word, backstop, now))
     }
 
     // The clock's value at now: the backstop before the start, else the line's value. Most clocks that run are told by
     // a short test; the whole one stands behind a call, so that the common way stays quick.
-    pub fn read(self, now: i64) -> Reading
-        ensures { result ≡ reading self now }
+    pub fn read(self, now: i64) -> Result<i64, Refusal>
+        ensures { reading_told result ≡ reading self now }
     {
         if self.clearly_runs() {
             self.read_tested(true, now)
@@ -196,55 +196,53 @@ impl Clock {
     }
 
     // The same where the short test leaves it open.
-    fn read_unclear(self, now: i64) -> Reading
-        ensures { result ≡ reading self now }
+    fn read_unclear(self, now: i64) -> Result<i64, Refusal>
+        ensures { reading_told result ≡ reading self now }
     {
         let taken = self.is_clock();
         self.read_tested(taken, now)
     }
 
     // The same, once it is known whether it is a clock.
-    fn read_tested(self, taken: bool, now: i64) -> Reading
+    #[tactic(auto, using(crate::proofs::Walks::passed_valid, crate::proofs::Walks::passed_now, crate::proofs::Walks::read_refused, crate::proofs::Walks::read_passed))]
+    fn read_tested(self, taken: bool, now: i64) -> Result<i64, Refusal>
         requires { taken ≡ is_clock self }
-        ensures { result ≡ reading self now }
+        ensures { reading_told result ≡ reading self now }
     {
-        if self.is_timely(taken, now) {
-            let value = self.clock_value(now);
-            read_answer(value)
-        } else {
-            let refusal = self.time_refusal(taken, now);
-            Reading { refusal, value: 0 }
-        }
+        self.time_refusal(taken, now)?;
+        shown(self.clock_value(now))
     }
 
-    // The clock as the request leaves it, or unaltered with a refusal.
+    // The clock as the request leaves it, or unaltered with a refusal's number.
     pub fn update(self, request: Request, now: i64) -> Updated
         ensures { result ≡ updating self request now }
     {
-        let told = self.request_refusal(request, now);
-        if told == 0 {
-            self.redraw(request, now)
-        } else {
-            Updated {
+        match self.carried_on(request, now) {
+            Ok(clock) => Updated { clock, refusal: 0 },
+            Err(refusal) => Updated {
                 clock: self,
-                refusal: told,
-            }
+                refusal: refusal.number(),
+            },
         }
     }
 
+    // The clock as the request leaves it.
+    #[tactic(auto, using(crate::proofs::Walks::update_refused))]
+    fn carried_on(self, request: Request, now: i64) -> Result<Clock, Refusal>
+        ensures { update_told self result ≡ updating self request now }
+    {
+        self.request_refusal(request, now)?;
+        self.redraw(request, now)
+    }
+
     // What the clock tells of itself at now.
-    pub fn details(self, now: i64) -> Detailed
-        ensures { result ≡ detailing self now }
+    #[tactic(auto, using(tables::proofs::Refusals::answer_taken, tables::proofs::Refusals::answer_refused), unfolding(crate::specs::Details::detailing, crate::specs::Details::details_table))]
+    pub fn details(self, now: i64) -> Result<Details, Refusal>
+        ensures { details_told result ≡ detailing self now }
     {
         let taken = self.is_clock();
-        let refusal = self.time_refusal(taken, now);
-        if refusal == 0 {
-            let details = self.described(now);
-            Detailed { refusal, details }
-        } else {
-            let details = Details::zeros();
-            Detailed { refusal, details }
-        }
+        self.time_refusal(taken, now)?;
+        Ok(self.described(now))
     }
 
     // Whether it is a clock, and started.
@@ -256,30 +254,32 @@ impl Clock {
         taken & (self.started == 1)
     }
 
-    // The refusal of what is no clock, and refusals 1 and 2.
-    fn time_refusal(self, taken: bool, now: i64) -> u8
+    // Refuses what is no clock, and by rules 1 and 2.
+    #[tactic(auto, unfolding(tables::specs::Refusals::refused_if, crate::specs::Taken::guarded, crate::specs::Clock::time_table))]
+    fn time_refusal(self, taken: bool, now: i64) -> Result<(), Refusal>
         requires { taken ≡ is_clock self }
-        ensures { result ≡ first (guarded self (time_table self now)) }
+        ensures { refusal_of result ≡ first (guarded self (time_table self now)) }
     {
-        let outside = arguments::is_outside(now);
-        let early = now < self.latest;
-        let r = next(0, !taken, refusal::NOT_A_CLOCK);
-        let r = next(r, outside, refusal::NOW_OUTSIDE);
-        next(r, early, refusal::NOW_EARLY)
+        refuse_if(!taken, Refusal::NotAClock)?;
+        refuse_if(arguments::is_outside(now), Refusal::NowOutside)?;
+        refuse_if(now < self.latest, Refusal::NowEarly)
     }
 
-    // Whether none of these applies, without working out which.
-    fn is_timely(self, taken: bool, now: i64) -> bool
-        requires { taken ≡ is_clock self }
-        ensures { result ≡ eqb (first (guarded self (time_table self now))) 0 }
-    {
-        taken & !arguments::is_outside(now) & !(now < self.latest)
-    }
-
-    // That of what is no clock, and rules 1 to 11 and 22 of an update: the time, the request, and what the clock
+    // Refuses what is no clock, and by rules 1 to 11 and 22 of an update: the time, the request, and what the clock
     // allows.
-    fn request_refusal(self, request: Request, now: i64) -> u8
-        ensures { result ≡ first (guarded self (request_table self request now)) }
+    #[tactic(auto, using(crate::proofs::Walks::refused_by_time, crate::proofs::Walks::refused_alone, crate::proofs::Walks::passed_alone))]
+    fn request_refusal(self, request: Request, now: i64) -> Result<(), Refusal>
+        ensures { refusal_of result ≡ first (guarded self (request_table self request now)) }
+    {
+        self.time_refusal(self.is_clock(), now)?;
+        request.refusal()?;
+        self.allows(request)
+    }
+
+    // Refuses by rules 8 to 11 and 22: what the clock allows.
+    #[tactic(auto, unfolding(tables::specs::Refusals::refused_if, crate::specs::Update::allowed_table))]
+    fn allows(self, request: Request) -> Result<(), Refusal>
+        ensures { refusal_of result ≡ first (allowed_table self request) }
     {
         let started = self.started == 1;
         let monotonic = has(self.word, Clock::MONOTONIC);
@@ -288,60 +288,55 @@ impl Clock {
             synthetic,
             reference,
             rate,
-            error,
+            ..
         } = request.flags();
-        let taken = self.is_clock();
-        let r = self.time_refusal(taken, now);
-        let r = next(r, request.word_wrong(), refusal::WORD_WRONG);
-        let r = next(
-            r,
-            !(synthetic | reference | rate | error),
-            refusal::NOTHING_FLAGGED,
-        );
-        let r = next(r, request.values_outside(), refusal::VALUE_OUTSIDE);
-        let r = next(r, request.rate_too_wide(), refusal::RATE_OUTSIDE);
-        let r = next(r, reference & !(synthetic | rate), refusal::REFERENCE_ALONE);
-        let r = next(r, !started & !synthetic, refusal::NOT_STARTED);
-        let r = next(r, continuous & reference, refusal::CONTINUOUS_REFERENCE);
-        let r = next(r, continuous & started & synthetic, refusal::CONTINUOUS_SET);
-        let r = next(
-            r,
+        refuse_if(!started & !synthetic, Refusal::NotStarted)?;
+        refuse_if(continuous & reference, Refusal::ContinuousReference)?;
+        refuse_if(continuous & started & synthetic, Refusal::ContinuousSet)?;
+        refuse_if(
             monotonic & started & synthetic & rate,
-            refusal::MONOTONIC_SET_AND_RATE,
-        );
-        let present = self.line.rate;
-        let wide = arguments::is_wide_step(present, request.rate);
-        next(r, started & (rate & wide), refusal::RATE_STEP)
+            Refusal::MonotonicSetAndRate,
+        )?;
+        refuse_if(
+            started & (rate & arguments::is_wide_step(self.line.rate, request.rate)),
+            Refusal::RateStep,
+        )
     }
 
     // The rest of an update that rules 1 to 11 and 22 let pass: the new line, and rules 12 to 14.
-    fn redraw(self, request: Request, now: i64) -> Updated
+    #[tactic(auto, using(crate::proofs::Redrawn::judged, crate::proofs::Redrawn::drawn_new, crate::proofs::Redrawn::redraw_refused, crate::proofs::Redrawn::redraw_taken))]
+    fn redraw(self, request: Request, now: i64) -> Result<Clock, Refusal>
         requires { first (guarded self (request_table self request now)) ≡ 0 }
-        ensures { result ≡ updating self request now }
+        ensures { update_told self result ≡ updating self request now }
     {
         let old = self.old_line();
-        let point = request.point(now);
-        let redrawn = new_line(request, old, point);
-        let line = redrawn.line_or(old);
-        let judged = self.line_refusal(request, redrawn, line, old, now);
-        if judged == 0 {
-            let clock = self.updated(request, line, now);
-            Updated {
-                clock,
-                refusal: judged,
-            }
-        } else {
-            Updated {
-                clock: self,
-                refusal: judged,
-            }
-        }
+        let redrawn = self.redrawn(request, now);
+        let line = redrawn.unwrap_or(old);
+        self.line_refusal(request, redrawn, line, old, now)?;
+        Ok(self.updated(request, line, now))
+    }
+
+    // The new line of an update that rules 1 to 11 and 22 let pass.
+    fn redrawn(self, request: Request, now: i64) -> Option<Line>
+        requires { first (guarded self (request_table self request now)) ≡ 0 }
+        ensures { result ≡ held (new_line self request now) }
+    {
+        let flags = request.flags();
+        let point = flagged_or(flags.reference, request.reference, now);
+        new_line(request, self.old_line(), point)
     }
 
     // Rules 12 to 14 of an update. The line is the one that was drawn, or else the old one.
-    fn line_refusal(self, request: Request, redrawn: Redrawn, line: Line, old: Line, now: i64) -> u8
+    fn line_refusal(
+        self,
+        request: Request,
+        redrawn: Option<Line>,
+        line: Line,
+        old: Line,
+        now: i64,
+    ) -> Result<(), Refusal>
         requires { Judged self request now redrawn line old }
-        ensures { result ≡ first (new_line_table self request now) }
+        ensures { refusal_of result ≡ first (new_line_table self request now) }
     {
         let Flags {
             synthetic,
@@ -351,38 +346,34 @@ impl Clock {
         let replaced = synthetic | rate;
         let new_value = line.value_at(now);
         let old_value = old.value_at(now);
-        let beyond = redrawn.is_beyond(Clock::END);
-        let above = new_value.is_over(Clock::END);
-        let under = new_value.is_under(self.backstop);
+        let beyond = begins_beyond(redrawn);
+        let above = Value::Within(Clock::END) < new_value;
+        let under = new_value < Value::Within(self.backstop);
         let monotonic = has(self.word, Clock::MONOTONIC);
         let less = new_value.is_less(old_value);
-        let r = next(0, replaced & (beyond | above), refusal::LINE_OUTSIDE);
-        let r = next(r, replaced & under, refusal::BELOW_BACKSTOP);
-        next(
-            r,
+        refuse_if(replaced & (beyond | above), Refusal::LineOutside)?;
+        refuse_if(replaced & under, Refusal::BelowBackstop)?;
+        refuse_if(
             replaced & (monotonic & (self.started == 1) & less),
-            refusal::MONOTONIC_BACK,
+            Refusal::MonotonicBack,
         )
     }
 
     // The clock that an accepted update leaves.
-    #[tactic(auto, unfolding(crate::specs::Update::updated))]
+    #[tactic(auto, unfolding(crate::specs::Update::updated, crate::specs::Update::next_generation))]
     fn updated(self, request: Request, line: Line, now: i64) -> Clock
         requires { line ≡ new_line self request now }
         ensures { result ≡ updated self request now }
     {
-        let Flags { synthetic, .. } = request.flags();
-        let error = request.error_or(self.error);
-        let generation = next_generation(self.generation);
-        let started = byte_of((self.started == 1) | synthetic);
+        let flags = request.flags();
         Clock {
             line,
             backstop: self.backstop,
             latest: now,
-            error,
-            generation,
+            error: flagged_or(flags.error, request.error, self.error),
+            generation: self.generation.wrapping_add(1),
             word: self.word,
-            started,
+            started: u8::from((self.started == 1) | flags.synthetic),
         }
     }
 
@@ -429,49 +420,33 @@ impl Clock {
     }
 }
 
-fn creation_refusal(word: u8, backstop: i64, now: i64) -> u8
-    ensures { result ≡ first (creation_table word backstop now) }
+#[tactic(auto, unfolding(tables::specs::Refusals::refused_if, crate::specs::Creation::creation_table))]
+fn creation_refusal(word: u8, backstop: i64, now: i64) -> Result<(), Refusal>
+    ensures { refusal_of result ≡ first (creation_table word backstop now) }
 {
     let monotonic = has(word, Clock::MONOTONIC);
     let continuous = has(word, Clock::CONTINUOUS);
     let auto_start = has(word, Clock::AUTO_START);
-    let r = next(0, arguments::is_outside(now), refusal::NOW_OUTSIDE);
-    let r = next(r, word % Clock::AUTO_START != 0, refusal::WORD_WRONG);
-    let r = next(
-        r,
-        continuous & !monotonic,
-        refusal::CONTINUOUS_NOT_MONOTONIC,
-    );
-    let r = next(
-        r,
-        arguments::is_outside(backstop),
-        refusal::BACKSTOP_OUTSIDE,
-    );
-    next(r, auto_start & (now < backstop), refusal::BACKSTOP_AHEAD)
+    refuse_if(arguments::is_outside(now), Refusal::NowOutside)?;
+    refuse_if(word % Clock::AUTO_START != 0, Refusal::WordWrong)?;
+    refuse_if(continuous & !monotonic, Refusal::ContinuousNotMonotonic)?;
+    refuse_if(arguments::is_outside(backstop), Refusal::BackstopOutside)?;
+    refuse_if(auto_start & (now < backstop), Refusal::BackstopAhead)
 }
 
 #[tactic(auto, unfolding(crate::specs::Creation::created))]
 fn new_clock(word: u8, backstop: i64, now: i64) -> Clock
     ensures { result ≡ created word backstop now }
 {
-    let started = byte_of(has(word, Clock::AUTO_START));
-    let line = Clock::identity_line();
     Clock {
-        line,
+        line: Clock::identity_line(),
         backstop,
         latest: now,
         error: Clock::UNKNOWN_ERROR,
         generation: Clock::FIRST_GENERATION,
         word,
-        started,
+        started: u8::from(has(word, Clock::AUTO_START)),
     }
-}
-
-// 1 for true, 0 for false.
-fn byte_of(b: bool) -> u8
-    ensures { result ≡ byte_of b }
-{
-    if b { 1 } else { 0 }
 }
 
 // Whether a creation word has a flag.
@@ -482,59 +457,45 @@ fn has(word: u8, flag: u8) -> bool
     word / flag % 2 == 1
 }
 
-// The generation after an accepted update.
-#[tactic(auto, unfolding(crate::specs::Update::next_generation))]
-fn next_generation(generation: u32) -> u32
-    ensures { result ≡ next_generation generation }
-{
-    if generation == u32::MAX {
-        0
-    } else {
-        generation + 1
-    }
-}
-
 // The line that an update draws, where rules 5 and 6 let its arguments pass.
-fn new_line(request: Request, old: Line, point: i64) -> Redrawn
+fn new_line(request: Request, old: Line, point: i64) -> Option<Line>
     requires { T (not (values_outside request)) × Drawable old × InRange point }
     ensures { result ≡ held (effect (has_synthetic request) (has_rate request) old point request.synthetic request.rate) }
 {
     let flags = request.flags();
     if flags.synthetic {
-        let rate = request.rate_or(old.rate);
-        Redrawn::Drawn(Line {
+        Some(Line {
             reference: point,
             synthetic: request.synthetic,
             remainder: 0, // a value set clears it
-            rate,
+            rate: flagged_or(flags.rate, request.rate, old.rate),
         })
     } else if flags.rate {
         old.turn(point, request.rate)
     } else {
-        Redrawn::Drawn(old)
+        Some(old)
     }
+}
+
+// Whether a line was not drawn, or begins beyond the range.
+fn begins_beyond(redrawn: Option<Line>) -> bool
+    ensures { result ≡ is_beyond redrawn END }
+{
+    redrawn.is_none_or(|line| Clock::END < line.synthetic)
 }
 
 // The line as details show it.
 fn shown_line(started: bool, line: Line) -> Line
     ensures { result ≡ cond started line zero_line }
 {
-    if started { line } else { Line::zeros() }
+    if started { line } else { Line::default() }
 }
 
-// The answer to a reading of this value.
-fn read_answer(value: Value) -> Reading
-    ensures { result ≡ read_of value }
+// What a reading of this value answers.
+#[tactic(auto, using(line::proofs::Placed::over_is), unfolding(tables::specs::Refusals::refused_if))]
+fn shown(value: Value) -> Result<i64, Refusal>
+    ensures { reading_told result ≡ read_of value }
 {
-    if value.is_over(Clock::END) {
-        Reading {
-            refusal: refusal::LINE_OUTSIDE,
-            value: 0,
-        }
-    } else {
-        Reading {
-            refusal: 0,
-            value: value.number(),
-        }
-    }
+    refuse_if(Value::Within(Clock::END) < value, Refusal::LineOutside)?;
+    Ok(value.number())
 }

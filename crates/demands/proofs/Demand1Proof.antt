@@ -8,7 +8,7 @@ use Rattle.clock.specs.Clock.{time_table}
 use Rattle.clock.specs.Taken.{guarded}
 use Rattle.clock.specs.Creation.{creation_table, creating}
 use Rattle.clock.specs.Reading.{reading_table, reading}
-use Rattle.clock.specs.Update.{request_table, new_line_table, update_table, updating}
+use Rattle.clock.specs.Update.{alone_table, allowed_table, request_table, new_line_table, update_table, updating}
 use Rattle.clock.specs.Details.{details_table, detailing}
 use Rattle.clock.specs.Calls.{read, details, ask_table, Call, update, ask, call_table, refusal_of, accepted, after}
 use Rattle.clock.specs.declared.Clock.{Clock}
@@ -22,7 +22,7 @@ unfolding creating creation_table
 demand1_create word backstop now = settled (creation_table word backstop now) _ _ tt
 
 pub demand1_update : Demand1Update
-unfolding guarded time_table request_table new_line_table update_table updating
+unfolding guarded time_table alone_table allowed_table request_table new_line_table update_table updating
 demand1_update c u now = settled (guarded c (update_table c u now)) _ _ tt
 
 pub demand1_ask : Demand1Ask

@@ -10,7 +10,8 @@ use Rattle.tables.proofs.Tests.{fails_second}
 use Rattle.line.specs.Numbers.{outside}
 use Rattle.line.specs.declared.Line.{Line}
 use Rattle.line.proofs.Laws.{turned_rate}
-use Rattle.line.proofs.Linear.{≤ℤ_trans, lin_≡, minus_lin}
+use Rattle.std.proofs.lemmas.Int.{ints}
+use Rattle.line.proofs.Linear.{≤ℤ_trans}
 use Rattle.clock.specs.Numbers.{step_outside}
 use Rattle.clock.specs.Clock.{is_running}
 use Rattle.clock.specs.Taken.{is_clock, NOT_A_CLOCK}
@@ -60,7 +61,9 @@ stays_started = kept_by_all (λ c. T (is_running c)) after_started
 
 no_step : (a : ℤ) → T (not (step_outside (a -ℤ a)))
 unfolding step_outside outside
-no_step a = subst⁻¹ (λ z. T (not (step_outside z))) (lin_≡ (a -ℤ a) (pos 0) (omega (arith, minus_lin a a))) tt
+no_step a =
+    let none : a -ℤ a ≡ pos 0 = omega (arith, ints) in
+    subst⁻¹ (λ z. T (not (step_outside z))) none tt
 
 -- the new rate is the flagged one or the old one
 effect_steps : (s a : Bool) (l : Line) (P S new : ℤ) → T (not (a && step_outside (new -ℤ l.rate))) →

@@ -7,22 +7,19 @@ mod shown;
 mod started;
 mod there_and_back;
 
+use print::Time;
 use std::io;
 
 fn main(rt: HostRuntime) -> io::Result<()> {
-    print::write(&rt, b"started: ")?;
-    print::signed(&rt, started::started())?;
-    print::end(&rt)?;
-    print::write(&rt, b"shown: ")?;
-    print::signed(&rt, shown::shown())?;
-    print::end(&rt)?;
-    print::write(&rt, b"longest slip: ")?;
-    print::number(&rt, slip::MAX_LENGTH as u64)?;
-    print::end(&rt)?;
-    print::write(&rt, b"there and back: ")?;
-    print::signed(&rt, print::wide(there_and_back::there_and_back()))?;
-    print::end(&rt)?;
-    print::write(&rt, b"second of two: ")?;
-    print::signed(&rt, print::wide(second_of_two::second_of_two()))?;
-    print::end(&rt)
+    println!(&rt; "started: {}", Time(started::started().unwrap_or(0)))?;
+    println!(&rt; "shown: {}", Time(shown::shown().unwrap_or(0)))?;
+    println!(&rt; "longest slip: {}", slip::MAX_LENGTH)?;
+    println!(&rt;
+        "there and back: {}",
+        there_and_back::there_and_back().unwrap_or(0)
+    )?;
+    println!(&rt;
+        "second of two: {}",
+        second_of_two::second_of_two().unwrap_or(0)
+    )
 }

@@ -1,12 +1,8 @@
-use clock::{Clock, Created};
+use clock::Clock;
+use tables::Refusal;
 
 // A clock that runs from creation on: at 350 ns it shows 350.
-pub fn started() -> i64 {
-    match Clock::create(Clock::AUTO_START, 0, 0) {
-        Created::Made(clock) => {
-            let reading = clock.read(350);
-            reading.value
-        }
-        Created::Refused(_) => 0,
-    }
+pub fn started() -> Result<i64, Refusal> {
+    let clock = Clock::create(Clock::AUTO_START, 0, 0)?;
+    clock.read(350)
 }

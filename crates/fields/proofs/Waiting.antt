@@ -1,5 +1,5 @@
 -- Bits that wait to be written: a field behind them, bytes of them that go out, and those that share a byte.
-use mathlib.Core.Path.{◌≡◌, sym, ap, ap₂, ◌∙◌, subst}
+use mathlib.Core.Path.{◌≡◌, refl, sym, ap, ap₂, ◌∙◌, subst}
 use mathlib.Core.Bool.{Bool}
 use mathlib.Core.List.{List, ◌++◌, append_assoc}
 use Prim.Native.Nat.{ℕ, ◌+◌, ◌-◌, ◌*◌, ◌/◌, ◌%◌, ◌^◌, ◌≤◌, ◌<◌}
@@ -10,8 +10,7 @@ use lib.Pow.{pow-add, shl_lt, shr_lt, shl_exact, shl-shr, shr-shr, field}
 use lib.Arith.{digits_lt}
 use Rattle.fields.specs.Bits.{digits, row}
 use Rattle.fields.specs.Field.{over}
-use Rattle.fields.specs.Pending.{waiting, reach, merged, Ready, Together}
-use Rattle.fields.specs.declared.Pending.{Pending}
+use Rattle.fields.specs.Pending.{waiting, reach, merged, Together}
 use Rattle.fields.proofs.Numbers.{length_digits, digits_mod, digits_append, digits_joined}
 use Rattle.fields.proofs.Rows.{length_row, row_byte}
 use Rattle.fields.proofs.Words.{shl_shl, shl_word, shl_word_twice, shl_clear, shr_shl, shl_shr_more, shl_shr_less}
@@ -35,9 +34,13 @@ shifted_waits n c k e = (
   ap (λ (y : ℕ). digits c (y / 2 ^ k)) e ∙ ap (digits c) (shl-shr n k),
 )
 
-pub nothing_waits : (l : List ℕ) (p : Pending) → p.count ≡ 0 → merged l p ≡ row l
+-- the place behind c bits
+pub reach_waiting : (x c i : ℕ) → reach (waiting x c i) ≡ 8 * i + c
+reach_waiting x c i = ap (λ (n : ℕ). 8 * i + n) (length_digits c (front x c))
+
+pub nothing_waits : (l : List ℕ) (x c i : ℕ) → c ≡ 0 → merged l (waiting x c i) ≡ row l
 unfolding merged
-nothing_waits l p e = over_no_digits (row l) (8 * p.first) p.count (front p.word p.count) e
+nothing_waits l x c i e = over_no_digits (row l) (8 * i) c (front x c) e
 
 -- ---- a field of w bits behind the c bits that wait in the word x
 
@@ -106,46 +109,70 @@ left_word v r h =
     let up : 63 - r + 1 ≡ 64 - r = omega arith in
     shl_word_twice v r (63 - r) (omega arith) ∙ ap (λ (k : ℕ). v % 2 ^ r * 2 ^ k) up
 
-module _ (l : List ℕ) (p : Pending) (w v : ℕ) (ready : Ready 64 p) (hw : w ≤ 64) (inside : reach p + w ≤ 8 * length l) where
+module _
+    (l : List ℕ) (x c i w v : ℕ) (few : c < 64) (clear : x % 2 ^ (64 - c) ≡ 0) (hw : w ≤ 64) (inside : reach (waiting x c i) + w ≤ 8 * length l) where
   abbrev sum : ℕ
-  sum = p.word + moved v w p.count
+  sum = x + moved v w c
 
   abbrev after : List Bool
-  after = over (merged l p) (reach p) (digits w v)
+  after = over (merged l (waiting x c i)) (reach (waiting x c i)) (digits w v)
+
+  ends : reach (waiting x c i) ≡ 8 * i + c
+  ends = reach_waiting x c i
 
   -- the bits that wait and the field in one go
-  field_behind : over (row l) (8 * p.first) (waiting p ++ digits w v) ≡ after
+  field_behind : over (row l) (8 * i) (digits c (front x c) ++ digits w v) ≡ after
   unfolding merged
   field_behind =
-      let lw : length (waiting p) ≡ p.count = length_digits p.count (front p.word p.count) in
+      let lw : length (digits c (front x c)) ≡ c = length_digits c (front x c) in
       sym
-      (over_over (row l) (8 * p.first) (waiting p) (digits w v) (reach p) (omega (arith, lw)) (omega (arith, lw, length_digits w v, length_row l)))
+      (over_over (row l) (8 * i) (digits c (front x c)) (digits w v) (reach (waiting x c i))
+      refl (omega (arith, lw, inside, length_digits w v, length_row l)))
 
-  -- all of the field waits
-  pub added_short : p.count + w < 64 → Together 64 l (record { word = sum; count = p.count + w; first = p.first }) after (reach p + w)
-  unfolding merged
-  added_short h =
-      let waits = short_waits p.word p.count w v ready.0 ready.1 hw (64 - (p.count + w)) (omega arith) in
-      record { ready = (h, waits.0); reached = omega arith; merges = ap (over (row l) (8 * p.first)) waits.1 ∙ field_behind }
+  module _ (h : c + w < 64) where
+    short
+        : (sum % 2 ^ (64 - (c + w)) ≡ 0) × (digits (c + w) (sum / 2 ^ (64 - (c + w))) ≡ digits c (front x c) ++ digits w v)
+    short = short_waits x c w v few clear hw (64 - (c + w)) (omega arith)
 
-  -- the word went out, and what is left of the field waits
-  pub added_full
-      : (l2 : List ℕ) (r : ℕ) → row l2 ≡ over (row l) (8 * p.first) (digits 64 sum) → p.count + w ≡ 64 + r
-      → Together 64 l2 (record { word = v * 2 ^ (63 - r) % 2 ^ 64 * 2 % 2 ^ 64; count = r; first = p.first + 8 }) after (reach p + w)
-  unfolding merged
-  added_full l2 r e er =
-      let few : r < 64 = omega (arith, ready.0) in
-      let waits = shifted_waits (v % 2 ^ r) r (64 - r) (left_word v r few) in
-      record {
-        ready = (few, waits.0);
-        reached = omega arith;
-        merges =
-            ap₂ (λ (y d : List Bool). over y (8 * (p.first + 8)) d) e (waits.1 ∙ digits_mod r v)
-            ∙ over_over (row l) (8 * p.first) (digits 64 sum) (digits r v) (8 * (p.first + 8))
-            (omega (arith, length_digits 64 sum)) (omega (arith, length_digits 64 sum, length_digits r v, length_row l))
-            ∙ ap (over (row l) (8 * p.first)) (full_and_left p.word p.count w v ready.0 ready.1 hw r er)
-            ∙ field_behind;
-      }
+    pub short_clear : sum % 2 ^ (64 - (c + w)) ≡ 0
+    short_clear = short.0
+
+    -- all of the field waits
+    pub added_short : Together l (waiting sum (c + w) i) after (reach (waiting x c i) + w)
+    unfolding merged
+    added_short =
+        record {
+          reached = omega (arith, reach_waiting sum (c + w) i, ends);
+          merges = ap (over (row l) (8 * i)) short.1 ∙ field_behind;
+        }
+
+  module _ (r : ℕ) (er : c + w ≡ 64 + r) where
+    abbrev pub left : ℕ
+    left = v * 2 ^ (63 - r) % 2 ^ 64 * 2 % 2 ^ 64
+
+    pub few_left : r < 64
+    few_left = omega (arith, few, er, hw)
+
+    rest : (left % 2 ^ (64 - r) ≡ 0) × (digits r (left / 2 ^ (64 - r)) ≡ digits r (v % 2 ^ r))
+    rest = shifted_waits (v % 2 ^ r) r (64 - r) (left_word v r few_left)
+
+    pub left_clear : left % 2 ^ (64 - r) ≡ 0
+    left_clear = rest.0
+
+    -- the word went out, and what is left of the field waits
+    pub added_full
+        : (l2 : List ℕ) → row l2 ≡ over (row l) (8 * i) (digits 64 sum) → Together l2 (waiting left r (i + 8)) after (reach (waiting x c i) + w)
+    unfolding merged
+    added_full l2 e =
+        record {
+          reached = omega (arith, er, reach_waiting left r (i + 8), ends);
+          merges =
+              ap₂ (λ (y d : List Bool). over y (8 * (i + 8)) d) e (rest.1 ∙ digits_mod r v)
+              ∙ over_over (row l) (8 * i) (digits 64 sum) (digits r v) (8 * (i + 8))
+              (omega (arith, length_digits 64 sum)) (omega (arith, inside, ends, er, length_digits 64 sum, length_digits r v, length_row l))
+              ∙ ap (over (row l) (8 * i)) (full_and_left x c w v few clear hw r er)
+              ∙ field_behind;
+        }
 
 -- ---- bytes that go out
 
@@ -173,27 +200,34 @@ module _ (x c m : ℕ) (hc : c ≤ 64) (clear : x % 2 ^ (64 - c) ≡ 0) (h : m �
             ∙ ap (λ (k : ℕ). digits k (front x c)) all,
       )
 
-pub drained
-    : (l : List ℕ) (p : Pending) (bytes : ℕ) → Ready (16 * bytes) p → bytes ≤ 4 → reach p ≤ 8 * length l
-    → (l2 : List ℕ) → row l2 ≡ over (row l) (8 * p.first) (digits (8 * bytes) (p.word / 2 ^ (64 - 8 * bytes))) → 8 * bytes ≤ p.count
-    → Together (8 * bytes) l2 (record { word = p.word * 2 ^ (8 * bytes) % 2 ^ 64; count = p.count - 8 * bytes; first = p.first + bytes }) (merged l p) (reach p)
-unfolding merged
-drained l p bytes ready few inside l2 e h =
-    let m : ℕ = 8 * bytes in
-    let c : ℕ = p.count in
-    let waits = others_wait p.word c m (omega (arith, ready.0)) ready.1 h in
-    let gone : List Bool = digits m (front p.word m) in
-    let left : List Bool = digits (c - m) (p.word * 2 ^ m % 2 ^ 64 / 2 ^ (64 - (c - m))) in
-    let lg : length gone ≡ m = length_digits m (front p.word m) in
-    let ll : length left ≡ c - m = length_digits (c - m) (p.word * 2 ^ m % 2 ^ 64 / 2 ^ (64 - (c - m))) in
-    record {
-      ready = (omega (arith, ready.0), waits.0);
-      reached = omega arith;
-      merges =
-          ap (λ (r : List Bool). over r (8 * (p.first + bytes)) left) e
-          ∙ over_over (row l) (8 * p.first) gone left (8 * (p.first + bytes)) (omega (arith, lg)) (omega (arith, lg, ll, length_row l))
-          ∙ ap (over (row l) (8 * p.first)) waits.1;
-    }
+module _ (x c i bytes : ℕ) (few : c < 64) (clear : x % 2 ^ (64 - c) ≡ 0) (h : 8 * bytes ≤ c) where
+  abbrev gone : ℕ
+  gone = 8 * bytes
+
+  abbrev others : ℕ
+  others = x * 2 ^ gone % 2 ^ 64
+
+  pub others_clear : others % 2 ^ (64 - (c - gone)) ≡ 0
+  others_clear = (others_wait x c gone (omega (arith, few)) clear h).0
+
+  pub drained
+      : (l l2 : List ℕ) → reach (waiting x c i) ≤ 8 * length l → row l2 ≡ over (row l) (8 * i) (digits gone (x / 2 ^ (64 - gone)))
+      → Together l2 (waiting others (c - gone) (i + bytes)) (merged l (waiting x c i)) (reach (waiting x c i))
+  unfolding merged
+  drained l l2 inside e =
+      let waits = others_wait x c gone (omega (arith, few)) clear h in
+      let out : List Bool = digits gone (front x gone) in
+      let left : List Bool = digits (c - gone) (others / 2 ^ (64 - (c - gone))) in
+      let lg : length out ≡ gone = length_digits gone (front x gone) in
+      let ll : length left ≡ c - gone = length_digits (c - gone) (others / 2 ^ (64 - (c - gone))) in
+      let ends : reach (waiting x c i) ≡ 8 * i + c = reach_waiting x c i in
+      record {
+        reached = omega (arith, ends, h, ll);
+        merges =
+            ap (λ (r : List Bool). over r (8 * (i + bytes)) left) e
+            ∙ over_over (row l) (8 * i) out left (8 * (i + bytes)) (omega (arith, lg)) (omega (arith, inside, ends, h, lg, ll, length_row l))
+            ∙ ap (over (row l) (8 * i)) waits.1;
+      }
 
 -- ---- fewer bits than a byte has
 
@@ -213,11 +247,10 @@ module _ (x c b : ℕ) (h : c < 8) (clear : x % 2 ^ (64 - c) ≡ 0) where
   byte_fits fits = subst (λ (y : ℕ). y < 256) (sym byte_sum) (front_fits b c (front x c) (omega arith) (front_lt x c fits (omega arith)))
 
 pub last_written
-    : (l : List ℕ) (p : Pending) (x : ℕ) → digits 8 x ≡ over (digits 8 (get_or l p.first 0)) 0 (waiting p) → p.count < 8 → p.first < length l
-    → row (set l p.first x) ≡ merged l p
+    : (l : List ℕ) (y x c i : ℕ) → digits 8 y ≡ over (digits 8 (get_or l i 0)) 0 (digits c (front x c)) → c < 8 → i < length l
+    → row (set l i y) ≡ merged l (waiting x c i)
 unfolding merged
-last_written l p x e h hf =
-    front_written l p.first x (waiting p) e (omega (arith, length_digits p.count (front p.word p.count))) hf
+last_written l y x c i e h hf = front_written l i y (digits c (front x c)) e (omega (arith, length_digits c (front x c))) hf
 
 -- the first c bits of a byte as the first of a word
 pub front_word : (b c : ℕ) → b < 256 → c < 8 → b / 2 ^ (8 - c) * 2 ^ (8 - c) % 2 ^ 64 * 2 ^ 56 % 2 ^ 64 ≡ b / 2 ^ (8 - c) * 2 ^ (64 - c)
@@ -234,13 +267,10 @@ front_word b c hb h =
 
 -- where they wait, all is as it was
 pub front_waits
-    : (l : List ℕ) (i c x : ℕ) → i < length l → c < 8 → x ≡ get_or l i 0 / 2 ^ (8 - c) * 2 ^ (64 - c)
-    → Ready 64 (record { word = x; count = c; first = i }) × (merged l (record { word = x; count = c; first = i }) ≡ row l)
+    : (l : List ℕ) (i c x : ℕ) → i < length l → c < 8 → x ≡ get_or l i 0 / 2 ^ (8 - c) * 2 ^ (64 - c) → merged l (waiting x c i) ≡ row l
 unfolding merged
 front_waits l i c x h hc e =
-    let waits = shifted_waits (get_or l i 0 / 2 ^ (8 - c)) c (64 - c) e in (
-      (omega arith, waits.0),
-      ap (over (row l) (8 * i))
-          (waits.1 ∙ sym (row_byte l i 0 c (8 - c) h (omega arith)) ∙ ap (λ (k : ℕ). take c (drop k (row l))) (add-zero (8 * i)))
-          ∙ over_own (row l) (8 * i) c (omega (arith, length_row l)),
-    )
+    let waits = shifted_waits (get_or l i 0 / 2 ^ (8 - c)) c (64 - c) e in
+    ap (over (row l) (8 * i))
+    (waits.1 ∙ sym (row_byte l i 0 c (8 - c) h (omega (arith, hc))) ∙ ap (λ (k : ℕ). take c (drop k (row l))) (add-zero (8 * i)))
+    ∙ over_own (row l) (8 * i) c (omega (arith, h, hc, length_row l))

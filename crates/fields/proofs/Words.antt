@@ -1,11 +1,9 @@
 -- Numbers shifted up and down, and bytes joined to one number.
-use mathlib.Core.Path.{◌≡◌, sym, ap, ap₂, ◌∙◌}
-use Prim.Native.Nat.{ℕ, ◌+◌, ◌*◌, ◌/◌, ◌%◌, ◌^◌, ◌≤◌, ◌<◌}
+use mathlib.Core.Path.{◌≡◌, sym, ap, ◌∙◌}
+use Prim.Native.Nat.{ℕ, ◌+◌, ◌*◌, ◌/◌, ◌%◌, ◌^◌, ◌<◌}
 use native.Mathlib.Nat.{add-zero, add-mul, mul_assoc, mod-lt}
 use native.Mathlib.Omega.{arith}
-use lib.Bits.{bit_or, or_shifted}
-use lib.Dec.{lit≤}
-use lib.Pow.{pow-add, pow_pos, shl_lt, shl_exact, shl-shr, shr-shr, split, low, mod-mod-pow}
+use lib.Pow.{pow-add, pow_pos, shl_lt, shl-shr, shr-shr, split, low, mod-mod-pow}
 
 -- ---- shifts
 
@@ -54,15 +52,6 @@ shl_shr_less y k r = ap (λ (n : ℕ). n / 2 ^ r) (sym (shl_shl y k r)) ∙ shl-
 
 -- ---- bytes joined
 
--- a byte more, below those that are joined already
-or_byte : {joined : ℕ} (x y k : ℕ) → joined ≡ x * 2 ^ (8 + k) → y < 256 → 8 + k ≤ 64 → bit_or joined (y * 2 ^ k % 2 ^ 64) ≡ (x * 256 + y) * 2 ^ k
-or_byte x y k e h l =
-    let f : x * 2 ^ (8 + k) ≡ x * 256 * 2 ^ k = sym (shl_shl x 8 k) in
-    ap₂ bit_or e (shl_exact 8 k 64 h l)
-    ∙ or_shifted x (8 + k) (y * 2 ^ k) (shl_lt 8 k h)
-    ∙ ap (λ (n : ℕ). n + y * 2 ^ k) f
-    ∙ sym (add-mul (x * 256) y (2 ^ k))
-
 module _ (a b c d e f g h : ℕ) where
   -- eight bytes as one number, one after another
   abbrev pub chained : ℕ
@@ -71,30 +60,3 @@ module _ (a b c d e f g h : ℕ) where
   -- the same, each byte at its place
   pub chained_sum : chained ≡ a * 2 ^ 56 + b * 2 ^ 48 + c * 2 ^ 40 + d * 2 ^ 32 + e * 2 ^ 24 + f * 2 ^ 16 + g * 2 ^ 8 + h
   chained_sum = omega arith
-
-  pub or_eight
-      : a < 256 → b < 256 → c < 256 → d < 256 → e < 256 → f < 256 → g < 256 → h < 256
-      → bit_or (bit_or (bit_or (bit_or (bit_or (bit_or (bit_or
-      (a * 2 ^ 56 % 2 ^ 64) (b * 2 ^ 48 % 2 ^ 64)) (c * 2 ^ 40 % 2 ^ 64)) (d * 2 ^ 32 % 2 ^ 64))
-      (e * 2 ^ 24 % 2 ^ 64)) (f * 2 ^ 16 % 2 ^ 64)) (g * 2 ^ 8 % 2 ^ 64)) h
-      ≡ chained
-  or_eight ha hb hc hd he hf hg hh =
-      let x2 : ℕ = a * 256 + b in
-      let x3 : ℕ = x2 * 256 + c in
-      let x4 : ℕ = x3 * 256 + d in
-      let x5 : ℕ = x4 * 256 + e in
-      let x6 : ℕ = x5 * 256 + f in
-      let x7 : ℕ = x6 * 256 + g in
-      ap (λ (x : ℕ). bit_or x h)
-      (or_byte x6 g 8
-      (or_byte x5 f 16
-      (or_byte x4 e 24
-      (or_byte x3 d 32
-      (or_byte x2 c 40
-      (or_byte a b 48 (shl_exact 8 56 64 ha (lit≤ tt)) hb (lit≤ tt))
-      hc (lit≤ tt))
-      hd (lit≤ tt))
-      he (lit≤ tt))
-      hf (lit≤ tt))
-      hg (lit≤ tt))
-      ∙ or_shifted x7 8 h hh

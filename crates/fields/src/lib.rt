@@ -1,12 +1,15 @@
 // Packed fields: numbers of 0 to 64 bits that stand in bytes one after another, most significant bit first.
+// Casts are `as` where a clause shows that nothing is lost: `try_from` would bring errors that can't come.
 #![tactic(auto)]
 
-ghost use Rattle.std.specs.Prelude.{◌≡◌, [], ◌∷◌, ◌+◌, ◌-◌, ◌*◌, ◌/◌, ◌%◌, ◌^◌, ◌≤◌, ◌<◌, min, length};
+ghost use Rattle.std.specs.Prelude.{◌≡◌, ◌+◌, ◌-◌, ◌*◌, ◌/◌, ◌%◌, ◌^◌, ◌≤◌, ◌<◌, min, length};
 ghost use Rattle.fields.specs.Bits.{digits, row};
 ghost use Rattle.fields.specs.Field.{field, over, Inside};
-ghost use Rattle.fields.specs.Record.{packed, fields, AllInside};
+ghost use Rattle.fields.specs.Record.{packed, fields, widths_in, values_in, AllInside};
 ghost use Rattle.fields.specs.Reader.{reader_at, moved_on};
-ghost use Rattle.fields.specs.Pending.{reach, merged, Ready, Together};
+ghost use Rattle.fields.specs.Pending.{Waiting, waiting, reach, merged, Together};
+
+use std::marker::Model;
 
 // The lent bytes, and the place of the next field in bits.
 #[derive(Clone, Copy)]
@@ -40,48 +43,68 @@ impl<'a> Reader<'a> {
             place: self.place + width,
         }
     }
+
+    // The fields of some widths, one after another: the reader is carried through them. A field of width 0 leaves it
+    // where it is.
+    #[inline(always)]
+    fn fields<const N: usize>(self, widths: [usize; N]) -> [u64; N]
+        requires { AllInside self.src.now self.place widths }
+        ensures { result ≡ fields self.entry.src.now self.entry.place widths.entry }
+    {
+        let mut reader = self;
+        let mut values = [0; N];
+        for (i, width) in widths.iter().enumerate() {
+            values[i] = reader.field(*width);
+            reader = reader.past(*width);
+        }
+        values
+    }
 }
 
-// Takes one field, through a reader of its own.
-pub fn take(bytes: &[u8], place: usize, width: usize) -> u64
-    requires { Inside bytes.now place width }
-    ensures { result ≡ field bytes.now place width }
-{
-    let reader = Reader::new(bytes, place);
-    reader.field(width)
+// A way to take packed fields out of bytes. What is asked speaks of the lent bytes and of places in them together, and
+// the bytes are a caller's own: so it stands at each function.
+pub trait Take {
+    // The field of `width` bits from a place on.
+    fn take(bytes: &[u8], place: usize, width: usize) -> u64
+        requires { Inside bytes.now place width }
+        ensures { result ≡ field bytes.now place width };
+
+    // The fields of six widths, one after another from the first bit on. Six, and not any number: a method of a trait
+    // can't have a const parameter yet.
+    fn take_six(bytes: &[u8], widths: [usize; 6]) -> [u64; 6]
+        requires { AllInside bytes.now 0 widths }
+        ensures { result ≡ fields bytes.now 0 widths }
+    {
+        let mut values = [0; 6];
+        let mut place = 0;
+        for (i, width) in widths.iter().enumerate() {
+            values[i] = Self::take(bytes, place, *width);
+            place += *width;
+        }
+        values
+    }
 }
 
-// The fields of six widths, one after another from the first bit on.
-pub fn take_six(bytes: &[u8], widths: [usize; 6]) -> [u64; 6]
-    requires { AllInside bytes.now 0 widths }
-    ensures { result ≡ fields bytes.now 0 widths }
-{
-    six_fields(
-        bytes, widths[0], widths[1], widths[2], widths[3], widths[4], widths[5],
-    )
-}
+// By whole bytes, through a reader.
+pub struct ByBytes;
 
-// One reader is made on the bytes and carried through the six fields. A field of width 0 leaves it where it is.
-fn six_fields(bytes: &[u8], a: usize, b: usize, c: usize, d: usize, e: usize, f: usize) -> [u64; 6]
-    requires { AllInside bytes.now 0 (a ∷ b ∷ c ∷ d ∷ e ∷ f ∷ []) }
-    ensures { result ≡ fields bytes.now 0 (a ∷ b ∷ c ∷ d ∷ e ∷ f ∷ []) }
-{
-    let reader = Reader::new(bytes, 0);
-    let first = reader.field(a);
-    let reader = reader.past(a);
-    let second = reader.field(b);
-    let reader = reader.past(b);
-    let third = reader.field(c);
-    let reader = reader.past(c);
-    let fourth = reader.field(d);
-    let reader = reader.past(d);
-    let fifth = reader.field(e);
-    let reader = reader.past(e);
-    let sixth = reader.field(f);
-    [first, second, third, fourth, fifth, sixth]
+impl Take for ByBytes {
+    // One field, through a reader of its own.
+    fn take(bytes: &[u8], place: usize, width: usize) -> u64 {
+        let reader = Reader::new(bytes, place);
+        reader.field(width)
+    }
+
+    // Through one reader (01), and compiled into each caller: as a call, full slips took a fifth longer.
+    #[inline(always)]
+    fn take_six(bytes: &[u8], widths: [usize; 6]) -> [u64; 6] {
+        let reader = Reader::new(bytes, 0);
+        reader.fields(widths)
+    }
 }
 
 // The field of `width` bits from a place on, by whole bytes. Width 0 stands apart: no number can be shifted by 64.
+// Bytes and place are handed over apart: 01 has the reader's functions thin, over such as this one and those below.
 fn get(bytes: &[u8], place: usize, width: usize) -> u64
     requires { Inside bytes.now place width }
     ensures { result ≡ field bytes.now place width }
@@ -118,7 +141,7 @@ fn get_of_many(bytes: &[u8], place: usize, width: usize) -> u64
     if before + width <= 64 {
         return value;
     }
-    value + (wide(bytes[first + 8]) >> (72 - before - width))
+    value + (u64::from(bytes[first + 8]) >> (72 - before - width))
 }
 
 // The byte that has the place, or an earlier one that 7 follow.
@@ -136,11 +159,9 @@ fn gathered(bytes: &[u8], first: usize) -> u64
     requires { (first ≤ length bytes.now) × (length bytes.now ≤ first + 8) }
     ensures { result ≡ field bytes.now (8 * first) (8 * (length bytes.now - first)) }
 {
-    let mut number: u64 = 0;
-    let mut i = first;
-    while i < bytes.len() {
-        number = number * 256 + wide(bytes[i]);
-        i += 1;
+    let mut number = 0;
+    for i in first..bytes.len() {
+        number = number * 256 + u64::from(bytes[i]);
     }
     number
 }
@@ -150,30 +171,8 @@ fn eight(bytes: &[u8], first: usize) -> u64
     requires { first + 8 ≤ length bytes.now }
     ensures { result ≡ field bytes.now (8 * first) 64 }
 {
-    joined(
-        bytes[first],
-        bytes[first + 1],
-        bytes[first + 2],
-        bytes[first + 3],
-        bytes[first + 4],
-        bytes[first + 5],
-        bytes[first + 6],
-        bytes[first + 7],
-    )
-}
-
-// One row of `|`: the compiler makes one load of it, of a sum it makes eight.
-fn joined(a: u8, b: u8, c: u8, d: u8, e: u8, f: u8, g: u8, h: u8) -> u64
-    ensures { result ≡ a * 2 ^ 56 + b * 2 ^ 48 + c * 2 ^ 40 + d * 2 ^ 32 + e * 2 ^ 24 + f * 2 ^ 16 + g * 2 ^ 8 + h }
-{
-    ((a as u64) << 56)
-        | ((b as u64) << 48)
-        | ((c as u64) << 40)
-        | ((d as u64) << 32)
-        | ((e as u64) << 24)
-        | ((f as u64) << 16)
-        | ((g as u64) << 8)
-        | (h as u64)
+    let word: &[u8; 8] = bytes[first..].first_chunk().unwrap();
+    u64::from_be_bytes(*word)
 }
 
 // Writes the `width` low bits of the value from a place on. Every other bit stays: those before the field in its first
@@ -189,94 +188,120 @@ pub fn put(buf: &mut [u8], place: usize, width: usize, value: u64)
     let count = place % 8;
     let word = front_bits(buf[first], count);
     let before = Pending { word, count, first };
-    let pending = add(&mut *buf, before, width, value);
-    finish(&mut *buf, pending);
+    let pending = before.add(&mut *buf, width, value);
+    pending.finish(&mut *buf);
 }
 
-// Writes fields of the given widths, one after another from the first bit on. Every other bit stays.
-pub fn put_all(buf: &mut [u8], widths: &[usize], values: &[u64])
-    requires { (length values.now ≡ length widths.now) × AllInside buf.old 0 widths.now }
-    ensures { row buf.new ≡ over (row buf.old) 0 (packed widths.now values.now) }
+// A number, and the bits that it is written in.
+#[derive(Clone, Copy)]
+pub struct Packed {
+    pub width: usize,
+    pub value: u64,
+}
+
+// Writes these fields one after another from the first bit on. Every other bit stays.
+pub fn put_all(buf: &mut [u8], fields: &[Packed])
+    requires { AllInside buf.old 0 (widths_in fields.now) }
+    ensures { row buf.new ≡ over (row buf.old) 0 (packed (widths_in fields.now) (values_in fields.now)) }
 {
     let mut pending = Pending {
         word: 0,
         count: 0,
         first: 0,
     };
-    let mut i: usize = 0;
-    while i < widths.len() {
-        let w = widths[i];
-        let v = values[i];
-        pending = add(&mut *buf, pending, w, v);
-        i += 1;
+    for field in fields {
+        pending = pending.add(&mut *buf, field.width, field.value);
     }
-    finish(&mut *buf, pending);
+    pending.finish(&mut *buf);
 }
 
 // Bits that wait to be written from the byte `first` on: the first `count` of the word, whose others are 0.
-#[derive(Clone, Copy)]
+#[derive(Drop)]
 struct Pending {
     word: u64,
     count: usize,
     first: usize,
 }
 
-// The bits that wait with a field behind them. Once they fill the word, it is written, and what is left of the field
-// waits. No number can be shifted by 64: so width 0 stands apart, and what is left is shifted in two steps.
-fn add(buf: &mut [u8], pending: Pending, width: usize, value: u64) -> Pending
-    requires { Ready 64 pending × (reach pending + width ≤ 8 * length buf.old) × (width ≤ 64) }
-    ensures { Together 64 buf.new result (over (merged buf.old pending) (reach pending) (digits width value)) (reach pending + width) }
-{
-    if width == 0 {
-        return pending;
+// Clauses see the bits, and the byte that they begin in.
+impl Model for Pending {
+    ghost Value = { Waiting };
+
+    ghost view = { λ p. waiting p.word p.count p.first };
+
+    ghost invariant = { λ p. (p.count < 64) × (p.word % 2 ^ (64 - p.count) ≡ 0) };
+}
+
+// The buffer is lent to each step, and no struct holds it: a promise on its bytes is one on what is lent.
+impl Pending {
+    // The bits that wait with a field behind them. Once they fill the word, it is written, and what is left of the
+    // field waits. No number can be shifted by 64: so width 0 stands apart, and what is left is shifted in two steps.
+    fn add(self, buf: &mut [u8], width: usize, value: u64) -> Pending
+        requires { (reach self + width ≤ 8 * length buf.old) × (width ≤ 64) }
+        ensures { Together buf.new result (over (merged buf.old self) (reach self) (digits width value)) (reach self + width) }
+    {
+        if width == 0 {
+            return self;
+        }
+        let Pending { word, count, first } = self;
+        let word = behind(word, count, width, value);
+        let count = count + width;
+        if count < 64 {
+            return Pending { word, count, first };
+        }
+        store(&mut *buf, first, 8, word);
+        let left = count - 64;
+        Pending {
+            word: (value << (63 - left)) << 1,
+            count: left,
+            first: first + 8,
+        }
     }
-    let Pending { word, count, first } = pending;
-    let word = word + ((value << (64 - width)) >> count);
-    let count = count + width;
-    if count < 64 {
-        return Pending { word, count, first };
+
+    // Writes the bits that wait, by four bytes, two and one; what is left of them goes into the front of a byte.
+    fn finish(self, buf: &mut [u8])
+        requires { reach self ≤ 8 * length buf.old }
+        ensures { row buf.new ≡ merged buf.old self }
+    {
+        // That fewer than 64 wait is known once a field is read.
+        let _ = &self.count;
+        let pending = self.drain(&mut *buf, 4);
+        let pending = pending.drain(&mut *buf, 2);
+        let pending = pending.drain(&mut *buf, 1);
+        let Pending { word, count, first } = pending;
+        if count != 0 {
+            let x = with_front(buf[first], count, word);
+            buf[first] = x;
+        }
     }
-    store(&mut *buf, first, 8, word);
-    let left = count - 64;
-    Pending {
-        word: (value << (63 - left)) << 1,
-        count: left,
-        first: first + 8,
+
+    // Writes the first `bytes` bytes of the bits that wait, where as many wait. Of fewer than twice as many, fewer than
+    // these are left.
+    fn drain(self, buf: &mut [u8], bytes: usize) -> Pending
+        requires { (length self.bits < 16 * bytes) × (reach self ≤ 8 * length buf.old) × (bytes ≤ 4) }
+        ensures few { length result.bits < 8 * bytes }
+        ensures together { Together buf.new result (merged buf.old self) (reach self) }
+    {
+        let Pending { word, count, first } = self;
+        let bits = 8 * bytes;
+        if count < bits {
+            return Pending { word, count, first };
+        }
+        store(&mut *buf, first, bytes, word >> (64 - bits));
+        Pending {
+            word: word << bits,
+            count: count - bits,
+            first: first + bytes,
+        }
     }
 }
 
-// Writes the bits that wait, by four bytes, two and one; what is left of them goes into the front of a byte.
-fn finish(buf: &mut [u8], pending: Pending)
-    requires { Ready 64 pending × (reach pending ≤ 8 * length buf.old) }
-    ensures { row buf.new ≡ merged buf.old pending }
+// A word that has `count` bits and no others, with as many of the bits of a field behind them as find room.
+fn behind(word: u64, count: usize, width: usize, value: u64) -> u64
+    requires { (count < 64) × (word % 2 ^ (64 - count) ≡ 0) × (0 < width) × (width ≤ 64) }
+    ensures { result ≡ word + value * 2 ^ (64 - width) % 2 ^ 64 / 2 ^ count }
 {
-    let pending = drain(&mut *buf, pending, 4);
-    let pending = drain(&mut *buf, pending, 2);
-    let pending = drain(&mut *buf, pending, 1);
-    let Pending { word, count, first } = pending;
-    if count != 0 {
-        let x = with_front(buf[first], count, word);
-        buf[first] = x;
-    }
-}
-
-// Writes the first `bytes` bytes of the bits that wait, where as many wait. Of fewer than twice as many, fewer than
-// these are left.
-fn drain(buf: &mut [u8], pending: Pending, bytes: usize) -> Pending
-    requires { Ready (16 * bytes) pending × (reach pending ≤ 8 * length buf.old) × (bytes ≤ 4) }
-    ensures { Together (8 * bytes) buf.new result (merged buf.old pending) (reach pending) }
-{
-    let Pending { word, count, first } = pending;
-    let bits = 8 * bytes;
-    if count < bits {
-        return pending;
-    }
-    store(&mut *buf, first, bytes, word >> (64 - bits));
-    Pending {
-        word: word << bits,
-        count: count - bits,
-        first: first + bytes,
-    }
+    word + ((value << (64 - width)) >> count)
 }
 
 // Writes the low `bytes` bytes of a number from the byte `first` on, the highest of them first.
@@ -284,11 +309,9 @@ fn store(buf: &mut [u8], first: usize, bytes: usize, number: u64)
     requires { (bytes ≤ 8) × (first + bytes ≤ length buf.old) }
     ensures { row buf.new ≡ over (row buf.old) (8 * first) (digits (8 * bytes) number) }
 {
-    let mut i: usize = 0;
-    while i < bytes {
+    for i in 0..bytes {
         let x = low_byte(number >> (8 * (bytes - 1 - i)));
         buf[first + i] = x;
-        i += 1;
     }
 }
 
@@ -297,7 +320,7 @@ fn front_bits(byte: u8, count: usize) -> u64
     requires { count < 8 }
     ensures { result ≡ byte / 2 ^ (8 - count) * 2 ^ (64 - count) }
 {
-    ((wide(byte) >> (8 - count)) << (8 - count)) << 56
+    ((u64::from(byte) >> (8 - count)) << (8 - count)) << 56
 }
 
 // The byte with its first `count` bits replaced by those of a word, which has no others.
@@ -305,18 +328,13 @@ fn with_front(byte: u8, count: usize, word: u64) -> u8
     requires { (count < 8) × (word % 2 ^ (64 - count) ≡ 0) }
     ensures { digits 8 result ≡ over (digits 8 byte) 0 (digits count (word / 2 ^ (64 - count))) }
 {
-    let rest = (wide(byte) << (56 + count)) >> (56 + count);
+    let rest = (u64::from(byte) << (56 + count)) >> (56 + count);
     ((word >> 56) + rest) as u8
 }
 
+// No From or TryFrom of the library takes the low byte of a number.
 fn low_byte(x: u64) -> u8
     ensures { result ≡ x % 256 }
 {
     (x % 256) as u8
-}
-
-fn wide(x: u8) -> u64
-    ensures { result ≡ x }
-{
-    x as u64
 }

@@ -1,9 +1,9 @@
 -- A quotient by a million and its rest, the distance taken apart.
-use Prim.Native.Nat.{ℕ, ◌+◌, ◌*◌, ◌/◌, ◌%◌, ◌≤◌}
-use native.Mathlib.Nat.{mul-le-mul, add-mul, mul_assoc, mul_comm, div-add-mod', add_assoc}
+use Prim.Native.Nat.{ℕ, ◌+◌, ◌*◌, ◌/◌, ◌%◌}
+use native.Mathlib.Nat.{add-mul, mul_assoc, mul_comm, div-add-mod', add_assoc}
 use native.Mathlib.Omega.{arith}
 use mathlib.Core.Path.{◌≡◌, sym, ap, ◌∙◌}
-use Rattle.line.specs.Numbers.{million, steepest, signed_end}
+use Rattle.line.specs.Numbers.{million}
 
 module _ (d v carry : ℕ) where
   swap : d / million * million * v ≡ d / million * v * million
@@ -21,9 +21,4 @@ module _ (d v carry : ℕ) where
   pub rest_by_parts : (d % million * v + carry) % million ≡ (d * v + carry) % million
   rest_by_parts = omega (arith, split)
 
--- the two products fit
-pub whole_fits : (d v : ℕ) → d ≤ signed_end → v ≤ steepest → d / million * v ≤ signed_end / million * steepest
-whole_fits d v h k = mul-le-mul {n₂ = signed_end / million} (omega arith) k
-
-pub rest_fits : (d v : ℕ) → v ≤ steepest → d % million * v ≤ million * steepest
-rest_fits d v k = mul-le-mul {n₂ = million} (omega arith) k
+pub ruleset by_parts = (scaled_by_parts, rest_by_parts)

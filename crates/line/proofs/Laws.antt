@@ -1,16 +1,18 @@
 -- The laws of lines that callers use: no caller unfolds a line's value.
-use mathlib.Core.Path.{◌≡◌, refl, ap, ◌∙◌}
-use Prim.Native.Nat.{ℕ, ◌<◌}
+use mathlib.Core.Path.{◌≡◌, refl, sym, ap, ◌∙◌}
+use Prim.Native.Nat.{ℕ, ◌+◌, ◌≤◌, ◌<◌}
 use native.Mathlib.Nat.{mul-le-mul_right, add-mul}
 use native.Mathlib.Omega.{arith}
-use lib.IntN.{ℤ, pos, negsuc, ◌+ℤ◌, ◌-ℤ◌, ◌*ℤ◌, +ℤ_idr, +ℤ_invr, zero-*ℤ}
+use lib.IntN.{ℤ, pos, negsuc, nat_abs, ◌+ℤ◌, ◌-ℤ◌, ◌*ℤ◌, +ℤ_idr, +ℤ_invr, zero-*ℤ}
 use lib.Signed.{le_z, ◌≤ℤ◌, le_z_yes}
 use lib.Dec.{T, eqb, eqb→eq}
 use Rattle.line.specs.Numbers.{million, floor_div, floor_mod, is_zero}
 use Rattle.line.specs.Line.{line, zero_line, slope, exact_at, value_at, remainder_at, turned, is_zeros, reaches, Rising}
 use Rattle.line.specs.declared.Line.{Line}
-use Rattle.line.proofs.Linear.{up, dn, le_lin, lin_le, ≤_lin, lin_≤, lin_≡, add_lin, minus_lin, times_lin, Floors, floor_lin, rest_lin}
-use Rattle.line.proofs.Slopes.{steep}
+use Rattle.std.specs.Int.Signed.{pos-nat_abs, yes_non_neg}
+use borrow.Author.Differences.{up, down}
+use Rattle.std.proofs.lemmas.Int.{ints}
+use Rattle.line.proofs.Linear.{Floors, floor_lin, rest_lin}
 use Rattle.line.proofs.Tests.{four}
 
 -- ---- the exact value
@@ -27,11 +29,7 @@ exact_begins l = rw (+ℤ_invr l.reference, zero-*ℤ (slope l.rate)) (+ℤ_idr 
 
 -- floor and rest together are the number
 whole_and_rest : (x : ℤ) → (floor_div x million *ℤ pos million) +ℤ pos (floor_mod x million) ≡ x
-whole_and_rest x =
-    let q = floor_div x million in
-    let m = times_lin q million in
-    let a = add_lin (q *ℤ pos million) (pos (floor_mod x million)) in
-    lin_≡ ((q *ℤ pos million) +ℤ pos (floor_mod x million)) x (omega (arith, rest_lin x))
+whole_and_rest x = omega (arith, ints, rest_lin x)
 
 -- a line turned at P begins there at its exact value
 pub exact_turned : (l : Line) (P a t : ℤ) → exact_at (turned l P a) t ≡ exact_at l P +ℤ ((t -ℤ P) *ℤ slope a)
@@ -40,33 +38,16 @@ exact_turned l P a t = ap (λ (z : ℤ). z +ℤ ((t -ℤ P) *ℤ slope a)) (whol
 
 times_rises : (x y : ℤ) (n : ℕ) → x ≤ℤ y → (x *ℤ pos n) ≤ℤ (y *ℤ pos n)
 times_rises x y n h =
-    let a = times_lin x n in
-    let b = times_lin y n in
-    let k = mul-le-mul_right n (≤_lin h) in
-    let d = add-mul (up x) (dn y) n in
-    let e = add-mul (up y) (dn x) n in
-    lin_≤ (omega arith)
-
-minus_rises : (x y z : ℤ) → x ≤ℤ y → (x -ℤ z) ≤ℤ (y -ℤ z)
-minus_rises x y z h =
-    let a = minus_lin x z in
-    let b = minus_lin y z in
-    let k = ≤_lin h in
-    lin_≤ (omega arith)
-
-plus_rises : (z x y : ℤ) → x ≤ℤ y → (z +ℤ x) ≤ℤ (z +ℤ y)
-plus_rises z x y h =
-    let a = add_lin z x in
-    let b = add_lin z y in
-    let k = ≤_lin h in
-    lin_≤ (omega arith)
+    let k : up x + down y ≤ up y + down x = omega (arith, ints) in
+    omega (arith, ints, mul-le-mul_right n k, add-mul (up x) (down y) n, add-mul (up y) (down x) n)
 
 exact_rises : (l : Line) (s t : ℤ) → Rising l.rate → s ≤ℤ t → exact_at l s ≤ℤ exact_at l t
 unfolding exact_at
 exact_rises l s t p h =
-    let n = steep l.rate p in
-    rw n.is (plus_rises ((l.synthetic *ℤ pos million) +ℤ pos l.remainder) _ _
-    (times_rises (s -ℤ l.reference) (t -ℤ l.reference) n.number (minus_rises s t l.reference h)))
+    let n = nat_abs (slope l.rate) in
+    let low : pos 0 ≤ℤ slope l.rate = omega (arith, ints) in
+    let is : slope l.rate ≡ pos n = sym (pos-nat_abs (slope l.rate) (yes_non_neg low)) in
+    rw is (omega (arith, ints, times_rises (s -ℤ l.reference) (t -ℤ l.reference) n (omega (arith, ints))))
 
 -- ---- the value
 
@@ -82,12 +63,10 @@ value_floors l t = floor_lin (exact_at l t)
 -- of a line that begins at a whole value it is S0 and the floor of the gain (01, 'The clock we sell')
 pub value_set : (P S a t : ℤ) → value_at (line P S 0 a) t ≡ S +ℤ floor_div ((t -ℤ P) *ℤ slope a) million
 value_set P S a t =
-    let l = line P S 0 a in
     let W = S *ℤ pos million in
     let g = (t -ℤ P) *ℤ slope a in
-    let f : Floors (W +ℤ g) (value_at l t) = rw (exact_set P S a t) at (value_floors l t) in
-    lin_≡ (value_at l t) (S +ℤ floor_div g million)
-    (omega (arith, f, floor_lin g, add_lin W g, times_lin S million, add_lin S (floor_div g million)))
+    let f : Floors (W +ℤ g) (value_at (line P S 0 a) t) = rw (exact_set P S a t) at (value_floors (line P S 0 a) t) in
+    omega (arith, ints, f, floor_lin g)
 
 -- lines that agree in exact value agree in value
 pub value_same : (l m : Line) (t : ℤ) → exact_at l t ≡ exact_at m t → value_at l t ≡ value_at m t
@@ -96,29 +75,20 @@ value_same l m t e = ap (λ (z : ℤ). floor_div z million) e
 
 -- a line never falls
 pub value_rises : (l : Line) (s t : ℤ) → Rising l.rate → s ≤ℤ t → value_at l s ≤ℤ value_at l t
-value_rises l s t p h =
-    let k = ≤_lin (exact_rises l s t p h) in
-    let f = value_floors l s in
-    let g = value_floors l t in
-    lin_≤ (omega arith)
+value_rises l s t p h = omega (arith, ints, exact_rises l s t p h, value_floors l s, value_floors l t)
 
 -- from its beginning on a line shows at least S0
 pub reaches_early : (l : Line) (t b : ℤ) → Rising l.rate → T (le_z l.reference t) → T (le_z b l.synthetic) → T (reaches l t b)
 unfolding reaches
 reaches_early l t b p begun enough =
-    let S = l.synthetic *ℤ pos million in
-    let start = S +ℤ pos l.remainder in
+    let start = (l.synthetic *ℤ pos million) +ℤ pos l.remainder in
     let risen : start ≤ℤ exact_at l t = rw (exact_begins l) at (exact_rises l l.reference t p (le_z_yes begun)) in
-    lin_le b (value_at l t)
-    (omega (arith, le_lin b l.synthetic enough, ≤_lin risen, add_lin S (pos l.remainder), times_lin l.synthetic million, value_floors l t))
+    omega (arith, ints, value_floors l t)
 
 -- a line that begins at 0 with 0 and the rate 0 has the value t at t
 pub value_identity : (t : ℤ) → value_at zero_line t ≡ t
 unfolding exact_at
-value_identity t =
-    let d = t -ℤ pos 0 in
-    let p = d *ℤ pos million in
-    lin_≡ (value_at zero_line t) t (omega (arith, add_lin (pos 0) p, value_floors zero_line t, times_lin d million, minus_lin t (pos 0)))
+value_identity t = omega (arith, ints, value_floors zero_line t)
 
 zero_is : (z : ℤ) → T (is_zero z) → z ≡ pos 0
 zero_is (pos n) t = ap pos (eqb→eq n 0 t)

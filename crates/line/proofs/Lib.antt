@@ -1,6 +1,5 @@
 pub mod Linear
 pub mod Casts
-pub mod Slopes
 pub mod ByParts
 pub mod FourAnswers
 pub mod Placed

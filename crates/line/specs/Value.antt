@@ -1,12 +1,10 @@
 -- A whole number as a signed number of 64 bits sees it: below 0, within what it holds, or above that.
-use Rattle.std.specs.Prelude.{Bool, true, false, cond, ℤ, pos, negsuc, ltb}
+use Rattle.std.specs.Prelude.{Bool, true, false, cond, ℤ, pos, negsuc, ltb, Option, Some, None}
 use Rattle.std.specs.Int.Signed.{lt_z}
 use Rattle.line.specs.Numbers.{signed_end}
 use Rattle.line.specs.declared.Line.{Line}
 use Rattle.line.specs.declared.Value.{Value}
 use Rattle.line.specs.declared.Value.TheVariants.{Below, Within, Above}
-use Rattle.line.specs.declared.Redrawn.{Redrawn}
-use Rattle.line.specs.declared.Redrawn.TheVariants.{Drawn, Outside}
 
 -- where it lies
 unfoldable pub placed : ℤ → Value
@@ -39,21 +37,21 @@ number_of Above = pos 0
 
 -- ---- lines whose S0 is within
 
-abbrev pub drawn_if : Value → Line → Redrawn
-drawn_if Below l = Outside
-drawn_if (Within x) l = Drawn l
-drawn_if Above l = Outside
+abbrev pub drawn_if : Value → Line → Option Line
+drawn_if Below l = None
+drawn_if (Within x) l = Some l
+drawn_if Above l = None
 
 -- a line as it is drawn
-unfoldable pub held : Line → Redrawn
+unfoldable pub held : Line → Option Line
 held l = drawn_if (placed l.synthetic) l
 
 -- not drawn, or with an S0 above b
-abbrev pub is_beyond : Redrawn → ℤ → Bool
-is_beyond (Drawn l) b = lt_z b l.synthetic
-is_beyond Outside b = true
+abbrev pub is_beyond : Option Line → ℤ → Bool
+is_beyond (Some l) b = lt_z b l.synthetic
+is_beyond None b = true
 
 -- the line where it was drawn, else another
-abbrev pub line_or : Redrawn → Line → Line
-line_or (Drawn l) other = l
-line_or Outside other = other
+abbrev pub line_or : Option Line → Line → Line
+line_or (Some l) other = l
+line_or None other = other

@@ -1,14 +1,13 @@
 -- A float is what its bits say: finite or not, its sign, and its size in units.
 use mathlib.Core.Path.{◌≡◌, refl, sym, ap, ◌∙◌, subst}
-use mathlib.Core.Bool.{Bool, true, false, not, ◌&&◌, cond, true≢false}
-use Prim.Native.Nat.{ℕ, zero, suc, ◌+◌, ◌*◌, ◌^◌, ◌≤◌, ◌<◌}
+use mathlib.Core.Bool.{Bool, true, false, not, cond, true≢false}
+use Prim.Native.Nat.{ℕ, zero, suc, ◌+◌, ◌*◌, ◌^◌}
 use native.Mathlib.Nat.{mul-one}
-use lib.Arith.{lt→nleb}
-use lib.Dec.{T, eqb, le→leb}
-use lib.Ieee.{Float, nan, inf, fin, binary64, up, down, odd, of_fields, of_bits, fits, lt, is_nan}
+use lib.Dec.{T, eqb}
+use Rattle.std.specs.Float.{float_is_finite}
+use lib.Ieee.{Float, nan, inf, fin, binary64, up, down, odd, of_fields, of_bits, fits, is_nan}
 use lib.Ieee.Bits.{of_bits-to_bits}
 use lib.Ieee.Exact.{HasValue, odd_sign}
-use Rattle.tables.proofs.Tests.{is_true, is_false}
 use Rattle.panel.specs.Bits.{bits, sign, exponent, digits, is_finite, one, units_of, units}
 
 -- the kit's float x, beside whether the bits are those of a finite one, their sign and their size in units
@@ -51,13 +50,15 @@ bits_say x held =
 
 -- ---- the code's tests
 
--- what lies between the infinities is finite
-pub between : (x : Float) (f s : Bool) (n : ℕ) → Says x f s n → (lt (inf true) x && lt x (inf false)) ≡ f
-unfolding lt
-between nan f s n h = sym h
-between (inf true) f s n h = sym h
-between (inf false) f s n h = sym h
-between (fin u m e) f s n h = sym h.0
+finite_says : (x : Float) (f s : Bool) (n : ℕ) → Says x f s n → float_is_finite x ≡ f
+unfolding float_is_finite
+finite_says nan f s n h = sym h
+finite_says (inf u) f s n h = sym h
+finite_says (fin u m e) f s n h = sym h.0
+
+-- the kit's test is that of the bits
+pub finite_by_bits : (x : Float) → fits binary64 x ≡ true → float_is_finite x ≡ is_finite (bits x)
+finite_by_bits x held = finite_says x _ _ _ (bits_say x held)
 
 -- and what is finite is a number
 pub no_nan : (x : Float) (f s : Bool) (n : ℕ) → Says x f s n → f ≡ true → T (not (is_nan x))
@@ -65,9 +66,3 @@ unfolding is_nan
 no_nan nan f s n h t = absurd (true≢false (sym t ∙ h))
 no_nan (inf u) f s n h t = tt
 no_nan (fin u m e) f s n h t = tt
-
-pub sign_set : (b : ℕ) → 2 ^ 63 ≤ b → sign b ≡ true
-sign_set b h = is_true (sign b) (le→leb (2 ^ 63) b h)
-
-pub sign_clear : (b : ℕ) → b < 2 ^ 63 → sign b ≡ false
-sign_clear b h = is_false (sign b) (lt→nleb (2 ^ 63) b h)

@@ -1,5 +1,4 @@
-pub mod Rounding
 pub mod Floats
-pub mod Sizes
+pub mod Rounding
 pub mod Capped
 pub mod Tables

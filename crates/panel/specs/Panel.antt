@@ -1,16 +1,17 @@
 -- A maintainer's command: its refusals, and the request that it asks for (02, R-12).
 use Rattle.std.specs.Prelude.{Bool, true, false, not, List, [], ◌∷◌, ◌++◌, ℕ, ◌+◌, ◌*◌, ◌^◌, ℤ, pos, Float}
+use Rattle.std.specs.Prelude.{Option, Some, None, Result, Ok, Err}
 use Rattle.std.specs.Float.{binary64}
 use Rattle.std.specs.Float.Ieee.{of_int, mul, div, lt}
 use Rattle.tables.specs.Tables.{Row, ◌when◌, answer}
+use Rattle.tables.specs.Refusals.{number}
+use Rattle.tables.specs.declared.Refusal.{Refusal}
 use Rattle.clock.specs.Numbers.{rate_outside}
 use Rattle.clock.specs.Update.{version_unit}
 use Rattle.clock.specs.declared.Request.{Request}
 use Rattle.panel.specs.Bits.{bits, is_finite, nearest_whole}
 use Rattle.panel.specs.declared.Command.{Command}
 use Rattle.panel.specs.declared.Command.TheVariants.{Hold, Trim, Pull}
-use Rattle.panel.specs.declared.Translated.{Translated}
-use Rattle.panel.specs.declared.Translated.TheVariants.{NoUpdate, Update, Refused}
 
 -- ---- what a pull makes of its offset, in nanoseconds, and its window, in seconds. `mul`, `div` and `lt` are the
 -- kit's: Rust's `*`, `/` and `<`, with each product and quotient rounded to the nearest float
@@ -87,8 +88,8 @@ asked (Pull offset window) = update_to (nearest_whole (bits (quotient offset win
 unfoldable pub translating : Command → Translation
 translating c = answer (command_table c) (asked c) refused_by
 
--- what each case of the enum that is answered stands for
-abbrev pub told : Translated → Translation
-told NoUpdate = no_update
-told (Update u) = record { held = false; refusal = 0; request = u }
-told (Refused n) = refused_by n
+-- what each case of the answer stands for
+abbrev pub told : Result (Option Request) Refusal → Translation
+told (Ok None) = no_update
+told (Ok (Some u)) = record { held = false; refusal = 0; request = u }
+told (Err r) = refused_by (number r)

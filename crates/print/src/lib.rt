@@ -1,37 +1,25 @@
-// Text and numbers written to standard output. No contract can speak of what is written: each function is safe and
-// ends, and the programs' stored output shows the rest. A write that fails is told by what each of them returns.
+// Times and values as the programs print them.
 #![tactic(auto)]
 
+ghost use Rattle.std.specs.Prelude.{Some};
+ghost use Rattle.print.specs.Text.{time_text};
+
 use clock::Clock;
-use std::io;
+use std::fmt;
 
-pub fn write(rt: &impl Print, text: &[u8]) -> io::Result<()> {
-    rt.write_all(text)
-}
+// A time or a value. The end of the range has a name.
+#[derive(Clone, Copy)]
+pub struct Time(pub i64);
 
-pub fn end(rt: &impl Print) -> io::Result<()> {
-    write(rt, b"\n")
-}
+impl fmt::Display for Time {
+    ghost output = { λ time. Some (time_text time.0) };
 
-pub fn number(rt: &impl Print, n: u64) -> io::Result<()> {
-    print!(rt; "{n}")
-}
-
-// The end of the range has a name.
-pub fn signed(rt: &impl Print, x: i64) -> io::Result<()> {
-    if x == Clock::END {
-        write(rt, b"END")
-    } else {
-        print!(rt; "{x}")
+    fn fmt<W: fmt::Write>(&self, f: &mut fmt::Formatter<W>) -> fmt::Result {
+        let time = self.0;
+        if time == Clock::END {
+            f.write_str("END")
+        } else {
+            write!(f, "{time}")
+        }
     }
-}
-
-// What END stands for.
-pub fn legend(rt: &impl Print) -> io::Result<()> {
-    let end = Clock::END;
-    print!(rt; "END is {end}, the last time and the highest value\n")
-}
-
-pub fn wide(x: i32) -> i64 {
-    x as i64
 }

@@ -7,7 +7,7 @@ use lib.Dec.{T, lit<}
 use lib.IntN.{ℤ, pos, negsuc, nat_abs, +ℤ-neg_ℤ_cancel, -ℤ-+ℤ_cancel, ◌-ℤ◌}
 use lib.Signed.{◌≤ℤ◌}
 use lib.Pow.{pow_pos}
-use Rattle.line.proofs.Linear.{≤_lin, lin_≤}
+use Rattle.std.proofs.lemmas.Int.{ints}
 use Rattle.line.specs.Numbers.{outside}
 use Rattle.clock.specs.Numbers.{END, END2, MAX_RATE}
 use Rattle.clock.specs.Clock.{Permitted}
@@ -45,12 +45,12 @@ end_is_widest word = go (is_version3 word)
     go false = refl
 
 pub time_fits : (word : ℕ) (x : ℤ) → pos 0 ≤ℤ x → x ≤ℤ end_of word → nat_abs x < 2 ^ time_width word
-time_fits word (pos n) l h = omega (arith, pow_pos (time_width word), ≤_lin (subst (λ (e : ℤ). pos n ≤ℤ e) (end_is_widest word) h))
+time_fits word (pos n) l h = omega (arith, ints, pow_pos (time_width word), subst (λ (e : ℤ). pos n ≤ℤ e) (end_is_widest word) h)
 time_fits word (negsuc n) l h = absurd l.le
 
 pub time_within : (word n : ℕ) → n < 2 ^ time_width word → T (not (outside (pos 0) (end_of word) (pos n)))
 time_within word n h =
-    inside (pos 0) (end_of word) (pos n) (lin_≤ (omega arith)) (subst (λ (e : ℤ). pos n ≤ℤ e) (sym (end_is_widest word)) (lin_≤ (omega arith)))
+    inside (pos 0) (end_of word) (pos n) (omega (arith, ints)) (subst (λ (e : ℤ). pos n ≤ℤ e) (sym (end_is_widest word)) (omega (arith, ints)))
 
 -- ---- rates
 

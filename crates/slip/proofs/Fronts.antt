@@ -5,25 +5,36 @@ use Prim.Native.Nat.{ℕ, ◌≤◌, ◌<◌}
 use native.Mathlib.Nat.{lt_of_lt_of_le, le_trans}
 use native.Mathlib.Omega.{arith}
 use lib.Pow.{pow_mono}
-use lib.Dec.{nltb→le}
 use lib.ListN.{length}
-use Rattle.tables.specs.Tables.{first, answer_to}
-use Rattle.tables.proofs.Tables.{passed, first_passed, first_refused, none_front, none_applies, nothing_told, answered, none_told, by_answer, refused_by_lem}
+use Rattle.std.specs.Prelude.{Result, Ok, Err}
+use Rattle.tables.specs.Tables.{first, answer_to, answer}
+use Rattle.tables.specs.Refusals.{number}
+use Rattle.tables.specs.declared.Refusal.{Refusal}
+use Rattle.tables.proofs.Tables.{first_passed, first_refused, none_front, none_applies, nothing_told, answered, none_told, by_answer, refused_by_lem}
 use Rattle.clock.specs.Update.{has_synthetic, has_reference}
 use Rattle.clock.specs.declared.Request.{Request}
 use Rattle.fields.specs.Record.{fields, Fit}
 use Rattle.fields.proofs.Records.{fields_fit}
-use Rattle.slip.specs.Layout.{time_width, rate_field_end, widths_by, slip_length, layout_by, layout, header_length}
-use Rattle.slip.specs.Reading.{Edition, present, headed, values_by, values_in, rate_in, header_table_by, header_table, fields_table, front_table_by, front_table, received_by, received, refused_by, reading_by, reading_front}
-use Rattle.slip.specs.Parts.{opened_by, opening, judging, Small}
+use Rattle.slip.specs.Layout.{time_width, widths_by, slip_length, layout_by, layout, header_length}
+use Rattle.slip.specs.Reading.{received_as, Edition, present, headed, values_by, values_in, header_table_by, header_table, fields_table, front_table_by, front_table, received_by, received, request_of, taken, refused_by, reading_by, reading_front}
+use Rattle.slip.specs.Parts.{numbered, opened_by, opening, read_as, judging, Small}
 use Rattle.slip.specs.declared.Received.{Received}
+use Rattle.slip.specs.declared.Slip.{Slip}
 use Rattle.slip.specs.declared.Opened.{Opened}
 use Rattle.slip.proofs.Layouts.{flagged_le, time_narrow, total_layout, length_low}
-use Rattle.slip.proofs.Openings.{opening_refusal, opening_taken, enough}
+use Rattle.slip.proofs.Told.{told_ok, told_err}
+use Rattle.slip.proofs.Openings.{enough, opening_passed, opening_taken}
 
-pub rate_told : (asked : Request) (values : List ℕ) → first (fields_table asked values) ≡ 0 → rate_in values ≤ rate_field_end
-unfolding fields_table
-rate_told asked values e = nltb→le rate_field_end (rate_in values) (passed 6 (fields_table asked values) tt e)
+-- the answer of the fields' tests, told for C
+judged_as : (asked : Request) (values : List ℕ) (size : ℕ) (told : Result Slip Refusal) → numbered told ≡ judging asked values size
+    → received_as told ≡ answer (fields_table asked values) (taken (request_of asked values) size) refused_by
+unfolding judging
+judged_as asked values size (Ok slip) e =
+    let t = told_ok (fields_table asked values) (read_as (request_of asked values) size) slip e in
+    ap {B = Received} (λ (s : Slip). taken s.request s.length) t.1 ∙ answered (fields_table asked values) (taken (request_of asked values) size) refused_by t.0
+judged_as asked values size (Err r) e =
+    let t = told_err (fields_table asked values) (read_as (request_of asked values) size) (number r) e in
+    refused_by_lem (fields_table asked values) (taken (request_of asked values) size) refused_by (number r) t.0 t.1
 
 -- ---- the front
 
@@ -43,42 +54,30 @@ module _ (bytes : List ℕ) where
         reference = lt_of_lt_of_le f.1.1.0 (pow_mono {j = 63} (le_trans (flagged_le (has_reference u) (time_width u.word)) (time_narrow u.word)));
       }
 
-  front_judged : first (header_table bytes) ≡ 0 → judging (headed bytes) (values_in bytes) (slip_length (headed bytes)) ≡ reading_front bytes
-  unfolding reading_by front_table_by header_table_by judging
-  front_judged e =
-      ap (λ (n : ℕ). answer_to n (received bytes) refused_by) (sym (first_passed (header_table bytes) (fields_table (headed bytes) (values_in bytes)) tt e))
-
-  front_refused : (n : ℕ) → n ≡ first (header_table bytes) → (n ≡ 0 → ⊥) → refused_by n ≡ reading_front bytes
-  unfolding reading_by front_table_by
-  front_refused n e h =
+  -- the refusal of its header stands
+  pub front_refused : (n : ℕ) → Err n ≡ opening bytes → refused_by n ≡ reading_front bytes
+  unfolding reading_by front_table_by opening
+  front_refused n is =
+      let t = told_err (header_table bytes) (opened_by (headed bytes)) n is in
       refused_by_lem (front_table bytes) (received bytes) refused_by n
-      (e ∙ sym (first_refused (header_table bytes) (fields_table (headed bytes) (values_in bytes)) (λ z. h (e ∙ z)))) h
+      (t.0 ∙ sym (first_refused (header_table bytes) (fields_table (headed bytes) (values_in bytes)) (λ z. t.1 (t.0 ∙ z)))) t.1
 
   -- what the header calls for, and the values that were taken by it, give the reading of the front
-  module _ (opened : Opened) (values : List ℕ) (is : opened ≡ opening bytes) (taken : values ≡ fields bytes 0 opened.sizes.layout) where
-    refusal_is : opened.refusal ≡ first (header_table bytes)
-    refusal_is = ap (λ (o : Opened). o.refusal) is ∙ opening_refusal bytes
+  module _ (opened : Opened) (values : List ℕ) (is : Ok opened ≡ opening bytes) (taken : values ≡ fields bytes 0 opened.sizes.layout) where
+    values_are : values ≡ values_in bytes
+    unfolding values_by
+    values_are = taken ∙ ap (λ (o : Opened). fields bytes 0 o.sizes.layout) (opening_taken bytes opened is)
 
-    pub opened_refused : (opened.refusal ≡ 0 → ⊥) → refused_by opened.refusal ≡ reading_front bytes
-    opened_refused h = front_refused opened.refusal refusal_is h
+    pub opened_small : Small values
+    opened_small = subst Small (sym values_are) (values_in_small (enough bytes (opening_passed bytes opened is)))
 
-    module _ (none : opened.refusal ≡ 0) where
-      passes : first (header_table bytes) ≡ 0
-      passes = sym refusal_is ∙ none
-
-      opened_by_lem : opened ≡ opened_by (headed bytes)
-      opened_by_lem = is ∙ opening_taken bytes passes
-
-      values_are : values ≡ values_in bytes
-      unfolding values_by
-      values_are = taken ∙ ap (λ (o : Opened). fields bytes 0 o.sizes.layout) opened_by_lem
-
-      pub opened_small : Small values
-      opened_small = subst Small (sym values_are) (values_in_small (enough bytes passes))
-
-      pub opened_judged : judging opened.asked values opened.sizes.length ≡ reading_front bytes
-      opened_judged =
-          ap₂ (λ (o : Opened) (vs : List ℕ). judging o.asked vs o.sizes.length) opened_by_lem values_are ∙ front_judged passes
+    pub opened_judged : (told : Result Slip Refusal) → numbered told ≡ judging opened.asked values opened.sizes.length → received_as told ≡ reading_front bytes
+    unfolding reading_by front_table_by header_table_by
+    opened_judged told e =
+        judged_as (headed bytes) (values_in bytes) (slip_length (headed bytes)) told
+        (e ∙ ap₂ (λ (o : Opened) (vs : List ℕ). judging o.asked vs o.sizes.length) (opening_taken bytes opened is) values_are)
+        ∙ ap (λ (n : ℕ). answer_to n (received bytes) refused_by)
+        (sym (first_passed (header_table bytes) (fields_table (headed bytes) (values_in bytes)) tt (opening_passed bytes opened is)))
 
 -- ---- what was taken, and what was refused
 

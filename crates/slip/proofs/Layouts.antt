@@ -118,9 +118,13 @@ module _ (u : Request) where
 abbrev pub sum : List ℕ → ℕ
 sum r = get_or r 0 0 + get_or r 1 0 + get_or r 2 0 + get_or r 3 0 + get_or r 4 0
 
-pub widths_sum : (u : Request) (r : List ℕ) → r ≡ widths u → sum r ≡ total (widths u)
+widths_sum : (u : Request) (r : List ℕ) → r ≡ widths u → sum r ≡ total (widths u)
 unfolding widths_by
 widths_sum u r e = ap sum e ∙ omega arith
+
+-- they are few enough to be added up and rounded
+pub sum_small : (word : ℕ) (r : List ℕ) → r ≡ widths (bare word) → sum r + 7 < 2 ^ 64
+sum_small word r e = omega (arith, widths_sum (bare word) r e, total_inside (bare word), counted (bare word))
 
 -- the sizes that come of five widths and their sum
 abbrev sizes_by : List ℕ → ℕ → Sizes
@@ -129,9 +133,12 @@ sizes_by r bits = record {
   length = room bits;
 }
 
-pub sized : (u : Request) (r : List ℕ) (bits : ℕ) → r ≡ widths u → bits ≡ total (widths u) → sizes_by r bits ≡ sizes u
+sized : (u : Request) (r : List ℕ) (bits : ℕ) → r ≡ widths u → bits ≡ total (widths u) → sizes_by r bits ≡ sizes u
 unfolding layout_by padding_by length_by widths_by
 sized u r bits e h = ap₂ {C = Sizes} sizes_by e h
+
+pub sizes_are : (word : ℕ) (r : List ℕ) → r ≡ widths (bare word) → sizes_by r (sum r) ≡ sizes (bare word)
+sizes_are word r e = sized (bare word) r (sum r) e (widths_sum (bare word) r e)
 
 -- only the word matters
 pub length_alike : (u v : Request) → u.word ≡ v.word → slip_length u ≡ slip_length v

@@ -1,29 +1,13 @@
--- Rows slip by slip: what the row reader tells, one step of a row, and the argument from slip to slip.
+-- Rows slip by slip: one step of a row, and the argument from slip to slip.
 use mathlib.Core.Path.{◌≡◌, refl, sym, ap, ◌∙◌, subst}
 use mathlib.Core.List.{List, [], ◌∷◌}
 use Prim.Native.Nat.{ℕ, zero, suc, ◌-◌, ◌≤◌, ◌<◌}
 use native.Mathlib.Nat.{not-suc-le-zero}
 use native.Mathlib.Omega.{arith}
-use lib.IntN.{ℤ}
 use lib.ListN.{length, drop, length-drop}
 use Rattle.tables.proofs.Tables.{by_number, told_taken, told_refused}
-use Rattle.fields.specs.Lent.{Lent, Part, from}
-use Rattle.slip.specs.Reading.{reading_front}
-use Rattle.slip.specs.Row.{NextSlip, reading_next, RowRead, stopped_by, ahead, stepped, row_after, row_by}
+use Rattle.slip.specs.Row.{RowRead, stopped_by, ahead, stepped, row_after, row_by}
 use Rattle.slip.specs.declared.Received.{Received}
-
--- ---- the row reader
-
--- number by number, and the rest from the end of the slip on
-pub next_told
-    : (bytes : Lent) (r : Received) {w : ℕ} {s p a : ℤ} {e n : ℕ} {rest : Part} → r ≡ reading_front bytes.now
-    → w ≡ r.request.word → s ≡ r.request.synthetic → p ≡ r.request.reference → a ≡ r.request.rate → e ≡ r.request.error
-    → n ≡ r.refusal → rest ≡ from r.length bytes
-    → record { request = record { word = w; synthetic = s; reference = p; rate = a; error = e }; refusal = n; rest = rest } ≡ reading_next bytes
-unfolding reading_next
-next_told bytes r is hw hs hp ha he hn hr =
-    rw (hw, hs, hp, ha, he, hn, hr)
-    (ap {B = NextSlip} (λ (x : Received). record { request = x.request; refusal = x.refusal; rest = from x.length bytes }) is)
 
 -- ---- one step
 

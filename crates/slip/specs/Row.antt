@@ -1,27 +1,28 @@
 -- Slips in a row, each behind the last (02, R-5).
-use Rattle.std.specs.Prelude.{List, [], ◌∷◌, ℕ, zero, suc, ◌+◌, ◌-◌, ℤ}
-use Rattle.std.specs.Borrow.{MutBor}
+use Rattle.std.specs.Prelude.{List, [], ◌∷◌, ℕ, zero, suc, ◌+◌, ◌-◌, Result, Ok, Err}
 use Rattle.tables.specs.Tables.{answer_to}
+use Rattle.tables.specs.Refusals.{refusal_of}
+use Rattle.tables.specs.declared.Refusal.{Refusal}
 use Rattle.clock.specs.declared.Request.{Request}
 use Rattle.fields.specs.Lent.{Lent, Part, part, from}
-use Rattle.slip.specs.Reading.{reading_front}
+use Rattle.slip.specs.Reading.{zero_request, reading_front}
 use Rattle.slip.specs.declared.Received.{Received}
 
 -- ---- one step
 
--- what the row reader leaves in the lent numbers, and the rest that it hands back
+-- what the row reader tells, and the rest that it hands back
 pub record NextSlip : Type 0 where
   pub request : Request
   pub refusal : ℕ
   pub rest : Part
 
--- word, synthetic, reference, rate, error and refusal as the lent numbers hold them
-abbrev pub next_slip : MutBor ℕ → MutBor ℤ → MutBor ℤ → MutBor ℤ → MutBor ℕ → MutBor ℕ → Lent → NextSlip
-next_slip w s p a e n rest = record {
-  request = record { word = w.now; synthetic = s.now; reference = p.now; rate = a.now; error = e.now };
-  refusal = n.now;
-  rest = part rest;
-}
+-- the request of its answer, zeros where that is a refusal
+abbrev pub request_told : Result Request Refusal → Request
+request_told (Ok u) = u
+request_told (Err r) = zero_request
+
+abbrev pub next_slip : Result Request Refusal → Lent → NextSlip
+next_slip told rest = record { request = request_told told; refusal = refusal_of told; rest = part rest }
 
 -- the slip on the front, and the caller's own bytes behind it: all of them where it is refused, since none is used
 unfoldable pub reading_next : Lent → NextSlip

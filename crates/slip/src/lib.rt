@@ -1,21 +1,32 @@
-// Update slips: a request as packed bytes, read and written.
+// Update slips: a request as packed bytes, read and written. Casts are `as` where a clause shows that nothing is lost:
+// `try_from` would bring errors that can't come.
 #![tactic(auto)]
 
-ghost use Rattle.std.specs.Prelude.{◌≡◌, not, cond, ◌++◌, ◌*◌, ◌^◌, ◌<◌, ◌≤◌, pos, nat_abs, T, length, drop};
-ghost use Rattle.tables.specs.Tables.{first};
-ghost use Rattle.fields.specs.Record.{fields};
-ghost use Rattle.clock.specs.Clock.{InRange, Permitted};
+ghost use Rattle.std.specs.Prelude.{◌≡◌, not, cond, ◌++◌, ◌*◌, ◌≤◌, pos, T, length, drop};
+ghost use Rattle.fields.specs.Record.{widths_in, values_in};
+ghost use Rattle.clock.specs.declared.Request.{Request};
+ghost use Rattle.clock.specs.Clock.{Permitted};
 ghost use Rattle.clock.specs.Update.{version_unit, values_outside, rate_too_wide};
-ghost use Rattle.slip.specs.Layout.{bare, time_width, rate_field, rate_of, rate_field_end, flagged_width, widths, slip_length, fits_version2, is_needless};
-ghost use Rattle.slip.specs.Reading.{refused_by, reading_front, reading_single};
-ghost use Rattle.slip.specs.Writing.{slip_version, in_slip, values_of, bytes_for, asked_table, writing_table, written_length, writing, outcome};
+ghost use Rattle.slip.specs.Layout.{bare, time_width, rate_field, rate_of, rate_field_end, widths, slip_length, fits_version2, is_needless};
+ghost use Rattle.slip.specs.Reading.{reading_front, reading_single, received_as};
+ghost use Rattle.slip.specs.Writing.{slip_version, in_slip, values_of, bytes_for, written_length, writing, outcome, written_as};
 ghost use Rattle.slip.specs.Row.{next_slip, reading_next};
-ghost use Rattle.slip.specs.Parts.{sizes, header_bits_in, header_in, opening, refused_opening, judging, timed, Small};
+ghost use Rattle.slip.specs.Parts.{numbered, sizes, opening, judging, Small, asking};
 
 use clock::{Clock, Request};
-use tables::{next, refusal};
+use fields::{ByBytes, Packed, Take};
+use std::array;
+use std::marker::Model;
+use tables::{Refusal, refuse_if};
 
-// A request that was read, how many bytes its slip used, and its refusal. A refused one is zeros but for its number.
+// A request that was read, and how many bytes its slip used.
+#[derive(Clone, Copy)]
+pub struct Slip {
+    pub request: Request,
+    pub length: usize,
+}
+
+// The same for C, with the number of a refusal. A refused one is zeros but for its number.
 #[repr(C)]
 #[derive(Clone, Copy)]
 pub struct Received {
@@ -24,7 +35,26 @@ pub struct Received {
     pub refusal: u8,
 }
 
-// How many bytes were written, 0 where it is refused.
+impl From<Result<Slip, Refusal>> for Received {
+    ghost from_gives = { λ answer r. r ≡ received_as answer };
+
+    fn from(answer: Result<Slip, Refusal>) -> Received {
+        match answer {
+            Ok(Slip { request, length }) => Received {
+                request,
+                length,
+                refusal: 0,
+            },
+            Err(refusal) => Received {
+                request: bare(0),
+                length: 0,
+                refusal: refusal.number(),
+            },
+        }
+    }
+}
+
+// How many bytes were written, for C: 0 where it is refused.
 #[repr(C)]
 #[derive(Clone, Copy)]
 pub struct Written {
@@ -32,20 +62,45 @@ pub struct Written {
     pub refusal: u8,
 }
 
+impl From<Result<usize, Refusal>> for Written {
+    ghost from_gives = { λ answer w. w ≡ written_as answer };
+
+    fn from(answer: Result<usize, Refusal>) -> Written {
+        Written {
+            length: answer.unwrap_or(0),
+            refusal: answer.err().map_or(0, Refusal::number),
+        }
+    }
+}
+
+// A request that a slip holds, in the version that it has: its arguments fit its word.
+#[derive(Clone, Copy)]
+struct Held {
+    request: Request,
+}
+
+impl Model for Held {
+    ghost Value = { Request };
+
+    ghost view = { λ held. held.request };
+
+    ghost invariant = { λ held. T (not (values_outside held.request)) × T (not (rate_too_wide held.request)) };
+
+    ghost inverse = { λ u. record { request = u } };
+}
+
 // The bits of header, synthetic, reference, rate, error and padding, and the bytes that they fill.
 #[derive(Clone, Copy)]
-pub struct Sizes {
-    pub layout: [usize; 6],
+struct Sizes {
+    layout: [usize; 6],
     length: usize,
 }
 
-// What the header of some bytes calls for: its word with zero arguments, and the sizes of its slip. A refused one is
-// zeros but for its number.
+// What a header calls for: its word with zero arguments, and the sizes of its slip.
 #[derive(Clone, Copy)]
-pub struct Opened {
+struct Opened {
     asked: Request,
-    pub sizes: Sizes,
-    refusal: u8,
+    sizes: Sizes,
 }
 
 // The bits of the header, of a time in versions 2 and 3, of a rate and an error bound. The header is the top of the
@@ -72,227 +127,110 @@ const HEADER_UNIT: u64 = 1 << (64 - HEADER_BITS);
 // The largest rate field, which stands for the widest rate: a rate is written as a + MAX_RATE.
 const RATE_FIELD_END: u64 = 2 * (Clock::MAX_RATE as u64);
 
-// The slip on the front of the bytes, whatever follows it. Here the bits are taken; the parts below say what they mean.
-#[tactic(auto, using(crate::proofs::Openings::header_inside, crate::proofs::Openings::header_taken))]
-pub fn read(bytes: &[u8]) -> Received
-    ensures { result ≡ reading_front bytes.now }
+// The slip on the front of the bytes, whatever follows it. It is compiled into each of its callers: the answer of a call
+// waits for memory (docs/PERFORMANCE.md).
+#[inline(always)]
+pub fn read(bytes: &[u8]) -> Result<Slip, Refusal>
+    ensures { received_as result ≡ reading_front bytes.now }
 {
-    let header = fields::take(bytes, 0, header_bits_in(bytes.len()));
-    let opened = opening_of(bytes, header);
-    let sizes = opened.sizes;
-    let layout = sizes.layout;
-    let values = fields::take_six(bytes, layout);
-    received_of(bytes, opened, values)
+    read_by::<ByBytes>(bytes)
 }
 
-// The slip on the front of the bytes, told in lent numbers, and the bytes behind it: the caller's own, from the end of
-// the slip on, or all of them where it is refused.
-pub fn read_next<'a>(
-    bytes: &'a [u8],
-    word: &mut u64,
-    synthetic: &mut i64,
-    reference: &mut i64,
-    rate: &mut i32,
-    error: &mut u64,
-    refusal: &mut u8,
-) -> &'a [u8]
-    ensures { next_slip word.exit synthetic.exit reference.exit rate.exit error.exit refusal.exit result ≡ reading_next bytes.entry }
+// The same, with its bits taken by T.
+#[inline(always)]
+#[tactic(auto, using(crate::proofs::Fronts::front_refused, crate::proofs::Fronts::opened_judged))]
+pub fn read_by<T: Take>(bytes: &[u8]) -> Result<Slip, Refusal>
+    ensures { received_as result ≡ reading_front bytes.now }
 {
-    let received = read(bytes);
-    let Request {
-        word: w,
-        synthetic: s,
-        reference: p,
-        rate: a,
-        error: e,
-    } = received.request;
-    *word = w;
-    *synthetic = s;
-    *reference = p;
-    *rate = a;
-    *error = e;
-    *refusal = received.refusal;
-    let length = received.length;
-    &bytes[length..]
+    let opened = opening_of::<T>(bytes)?;
+    let sizes = opened.sizes;
+    let values = T::take_six(bytes, sizes.layout);
+    judged(opened.asked, values, sizes.length)
+}
+
+// The request of the slip on the front of the bytes, and the bytes behind it: the caller's own, from the end of the
+// slip on, or all of them where it is refused.
+#[tactic(auto, using(crate::proofs::Fronts::front_within), unfolding(crate::specs::Row::reading_next))]
+pub fn read_next<'a>(bytes: &'a [u8]) -> (Result<Request, Refusal>, &'a [u8])
+    ensures { next_slip result.0 result.1 ≡ reading_next bytes.entry }
+{
+    match read(bytes) {
+        Ok(slip) => (Ok(slip.request), &bytes[slip.length..]),
+        Err(refusal) => (Err(refusal), bytes),
+    }
 }
 
 // A slip that is all of the bytes: none may be left over.
-pub fn read_single(bytes: &[u8]) -> Received
-    ensures { result ≡ reading_single bytes.now }
+#[tactic(auto, unfolding(tables::specs::Refusals::refused_if, crate::specs::Reading::reading_single))]
+pub fn read_single(bytes: &[u8]) -> Result<Slip, Refusal>
+    ensures { received_as result ≡ reading_single bytes.now }
 {
-    let received = read(bytes);
-    single_of(bytes, received)
+    let slip = read(bytes)?;
+    refuse_if(slip.length < bytes.len(), Refusal::BytesLeftOver)?;
+    Ok(slip)
 }
 
-// Writes the request as a slip to the front of the buffer. No other byte is touched, and none where it is refused.
-pub fn write(request: Request, buffer: &mut [u8]) -> Written
-    ensures { outcome result buffer.new ≡ writing request buffer.old }
+// Writes the request as a slip to the front of the buffer, and tells how many bytes that are. No other byte is touched,
+// and none where it is refused.
+#[tactic(auto, using(crate::proofs::Layouts::length_alike, crate::proofs::Writings::writing_refused, crate::proofs::Writings::writing_short, crate::proofs::Writings::writing_done), unfolding(tables::specs::Refusals::refused_if))]
+pub fn write(request: Request, buffer: &mut [u8]) -> Result<usize, Refusal>
+    ensures { outcome (written_as result) buffer.new ≡ writing request buffer.old }
 {
-    let refusal = writing_refusal(request, buffer.len());
-    if refusal == 0 {
-        let slip = in_slip(request);
-        write_slip(slip, &mut *buffer);
-        let length = length_of(slip.word);
-        Written { length, refusal }
-    } else {
-        Written { length: 0, refusal }
-    }
+    let slip = slip_for(request)?;
+    let length = length_of(slip.request.word);
+    refuse_if(buffer.len() < length, Refusal::BufferShort)?;
+    write_slip(slip, &mut *buffer);
+    Ok(length)
 }
 
-// How many bytes the request's slip has, 0 where writing refuses it whatever the room.
-#[tactic(auto, using(crate::proofs::Layouts::length_alike, tables::proofs::Tables::answered, tables::proofs::Tables::refused_by_lem), unfolding(crate::specs::Writing::written_length))]
+// How many bytes the request's slip has, 0 where writing refuses it whatever the room: so it can't fail.
+#[tactic(auto, using(crate::proofs::Layouts::length_alike, tables::proofs::Tables::answered, tables::proofs::Tables::refused_by_lem), unfolding(crate::specs::Parts::asking, crate::specs::Writing::written_length))]
 pub fn slip_length(request: Request) -> usize
     ensures { result ≡ written_length request }
 {
-    if asked_refusal(request) == 0 {
-        let slip = in_slip(request);
-        length_of(slip.word)
-    } else {
-        0
+    match slip_for(request) {
+        Ok(slip) => length_of(slip.request.word),
+        Err(_) => 0,
     }
 }
 
-// ---- the parts of a reading that take no bits
+// ---- the parts of a reading
 
-// How many bits of the header there are: none where the bytes are too few for one.
-pub fn header_bits_in(size: usize) -> usize
-    ensures { result ≡ header_bits_in size }
+// What the header on the front of these bytes calls for. The sizes are worked out here, once.
+#[tactic(auto, unfolding(tables::specs::Refusals::refused_if, crate::specs::Parts::opening, crate::specs::Reading::header_table_by, crate::specs::Reading::headed))]
+fn opening_of<T: Take>(bytes: &[u8]) -> Result<Opened, Refusal>
+    ensures { numbered result ≡ opening bytes.now }
 {
-    if size < HEADER_LENGTH { 0 } else { HEADER_BITS }
-}
-
-// What the header of these bytes calls for, which was taken from their front. The sizes are worked out here, once.
-#[tactic(auto, using(crate::proofs::Openings::open_none))]
-pub fn opening_of(bytes: &[u8], header: u64) -> Opened
-    requires { header ≡ header_in bytes.now }
-    ensures { result ≡ opening bytes.now }
-{
-    if bytes.len() < HEADER_LENGTH {
-        return refused_opening(refusal::TOO_SHORT);
-    }
-    let asked = bare(header * HEADER_UNIT);
-    if asked.word_wrong() {
-        return refused_opening(refusal::WORD_WRONG);
-    }
+    refuse_if(bytes.len() < HEADER_LENGTH, Refusal::TooShort)?;
+    let asked = bare(T::take(bytes, 0, HEADER_BITS) * HEADER_UNIT);
+    refuse_if(asked.word_wrong(), Refusal::WordWrong)?;
     let sizes = sizes_of(asked.word);
-    if bytes.len() < sizes.length {
-        return refused_opening(refusal::TOO_SHORT);
-    }
-    Opened {
-        asked,
-        sizes,
-        refusal: 0,
-    }
-}
-
-// What is read on the front of these bytes, from what their header calls for and the fields that were taken by it. The
-// bytes are handed over for the contract alone.
-#[tactic(auto, using(crate::proofs::Fronts::opened_judged, crate::proofs::Fronts::opened_refused))]
-pub fn received_of(bytes: &[u8], opened: Opened, values: [u64; 6]) -> Received
-    requires { (opened ≡ opening bytes.now) × (values ≡ fields bytes.now 0 opened.sizes.layout) }
-    ensures { result ≡ reading_front bytes.now }
-{
-    if opened.refusal == 0 {
-        let sizes = opened.sizes;
-        judged(opened.asked, values, sizes.length)
-    } else {
-        refused(opened.refusal)
-    }
-}
-
-// What is read where these bytes are a single slip, from what was read on their front: none may be left over. The
-// answer is put together again field by field: one that is copied as a whole waits for memory (docs/PERFORMANCE.md).
-#[tactic(auto, unfolding(crate::specs::Reading::reading_single))]
-pub fn single_of(bytes: &[u8], received: Received) -> Received
-    requires { received ≡ reading_front bytes.now }
-    ensures { result ≡ reading_single bytes.now }
-{
-    let Received {
-        request,
-        length,
-        refusal,
-    } = received;
-    let Request {
-        word,
-        synthetic,
-        reference,
-        rate,
-        error,
-    } = request;
-    if (refusal == 0) & (length < bytes.len()) {
-        refused(refusal::BYTES_LEFT_OVER)
-    } else {
-        let request = Request {
-            word,
-            synthetic,
-            reference,
-            rate,
-            error,
-        };
-        Received {
-            request,
-            length,
-            refusal,
-        }
-    }
-}
-
-// ---- what stands behind these
-
-fn refused_opening(refusal: u8) -> Opened
-    ensures { result ≡ refused_opening refusal }
-{
-    let asked = bare(0);
-    let sizes = Sizes {
-        layout: [0, 0, 0, 0, 0, 0],
-        length: 0,
-    };
-    Opened {
-        asked,
-        sizes,
-        refusal,
-    }
+    refuse_if(bytes.len() < sizes.length, Refusal::TooShort)?;
+    Ok(Opened { asked, sizes })
 }
 
 // The tests of the fields as they stand in a slip of this length, and the request that they give. The values are those
 // of header, synthetic, reference, rate, error and padding.
-fn judged(asked: Request, values: [u64; 6], length: usize) -> Received
+#[tactic(auto, unfolding(tables::specs::Refusals::refused_if, crate::specs::Parts::judging, crate::specs::Reading::fields_table))]
+fn judged(asked: Request, values: [u64; 6], length: usize) -> Result<Slip, Refusal>
     requires { Small values }
-    ensures { result ≡ judging asked values length }
+    ensures { numbered result ≡ judging asked values length }
 {
-    let rate = values[3];
-    let synthetic = time_of(values[1]);
-    let reference = time_of(values[2]);
-    let needless = is_needless(timed(asked.word, synthetic, reference));
-    let r = next(0, RATE_FIELD_END < rate, refusal::RATE_OUTSIDE);
-    let r = next(r, values[5] != 0, refusal::PADDING_SET);
-    let r = next(r, needless, refusal::VERSION_NEEDLESS);
-    if r == 0 {
-        let flags = asked.flags();
-        let request = Request {
-            word: asked.word,
-            synthetic,
-            reference,
-            rate: rate_of(flags.rate, rate),
-            error: values[4],
-        };
-        Received {
-            request,
-            length,
-            refusal: r,
-        }
-    } else {
-        refused(r)
-    }
+    refuse_if(RATE_FIELD_END < values[3], Refusal::RateOutside)?;
+    refuse_if(values[5] != 0, Refusal::PaddingSet)?;
+    let flags = asked.flags();
+    let request = Request {
+        word: asked.word,
+        synthetic: values[1] as i64,
+        reference: values[2] as i64,
+        rate: rate_of(flags.rate, values[3]),
+        error: values[4],
+    };
+    refuse_if(is_needless(request), Refusal::VersionNeedless)?;
+    Ok(Slip { request, length })
 }
 
-fn time_of(value: u64) -> i64
-    requires { value < 2 ^ 63 }
-    ensures { result ≡ pos value }
-{
-    value as i64
-}
-
+// A flagged rate of a slip, 0 for one that isn't flagged. As an `if` in its caller it leaves that one's proof open.
 fn rate_of(flagged: bool, value: u64) -> i32
     requires { value ≤ rate_field_end }
     ensures { result ≡ cond flagged (rate_of value) (pos 0) }
@@ -304,35 +242,13 @@ fn rate_of(flagged: bool, value: u64) -> i32
     }
 }
 
-// A refused reading, which is zeros but for its number.
-fn refused(refusal: u8) -> Received
-    ensures { result ≡ refused_by refusal }
-{
-    let request = bare(0);
-    Received {
-        request,
-        length: 0,
-        refusal,
-    }
-}
-
 // A request of this word with zero arguments.
 fn bare(word: u64) -> Request
     ensures { result ≡ bare word }
 {
-    timed(word, 0, 0)
-}
-
-// A request of this word with these times and no other arguments.
-fn timed(word: u64, synthetic: i64, reference: i64) -> Request
-    ensures { result ≡ timed word synthetic reference }
-{
     Request {
         word,
-        synthetic,
-        reference,
-        rate: 0,
-        error: 0,
+        ..Request::default()
     }
 }
 
@@ -363,14 +279,7 @@ fn time_width(asked: Request) -> usize
     }
 }
 
-// A field that isn't flagged has no bits.
-fn flagged_width(flagged: bool, width: usize) -> usize
-    ensures { result ≡ flagged_width flagged width }
-{
-    if flagged { width } else { 0 }
-}
-
-// The bits of header, synthetic, reference, rate and error.
+// The bits of header, synthetic, reference, rate and error. A field that isn't flagged has none.
 #[tactic(auto, unfolding(crate::specs::Layout::widths_by))]
 fn widths_of(word: u64) -> [usize; 5]
     ensures { result ≡ widths (bare word) }
@@ -378,13 +287,16 @@ fn widths_of(word: u64) -> [usize; 5]
     let asked = bare(word);
     let time = time_width(asked);
     let flags = asked.flags();
-    let synthetic = flagged_width(flags.synthetic, time);
-    let reference = flagged_width(flags.reference, time);
-    let rate = flagged_width(flags.rate, RATE_BITS);
-    let error = flagged_width(flags.error, ERROR_BITS);
-    [HEADER_BITS, synthetic, reference, rate, error]
+    [
+        HEADER_BITS,
+        if flags.synthetic { time } else { 0 },
+        if flags.reference { time } else { 0 },
+        if flags.rate { RATE_BITS } else { 0 },
+        if flags.error { ERROR_BITS } else { 0 },
+    ]
 }
 
+#[tactic(auto, using(crate::proofs::Layouts::sum_small, crate::proofs::Layouts::sizes_are))]
 fn sizes_of(word: u64) -> Sizes
     ensures { result ≡ sizes (bare word) }
 {
@@ -409,20 +321,9 @@ fn length_of(word: u64) -> usize
 fn in_slip(request: Request) -> Request
     ensures { result ≡ in_slip request }
 {
-    let Request {
-        word,
-        synthetic,
-        reference,
-        rate,
-        error,
-    } = request;
-    let version = slip_version(request);
     Request {
-        word: version + word % Request::VERSION_UNIT,
-        synthetic,
-        reference,
-        rate,
-        error,
+        word: slip_version(request) + request.word % Request::VERSION_UNIT,
+        ..request
     }
 }
 
@@ -437,73 +338,66 @@ fn slip_version(request: Request) -> u64
     }
 }
 
-// Why a request can't be written whatever the room, 0 where it can. It ends at the first test that applies: a request
-// that is written passes three tests, and no number is picked.
-#[tactic(auto, unfolding(crate::specs::Writing::asked_table))]
-fn asked_refusal(request: Request) -> u8
-    ensures { result ≡ first (asked_table request) }
+// The request as its slip has it, where it can be written given room.
+#[tactic(auto, unfolding(tables::specs::Refusals::refused_if, crate::specs::Writing::asked_table, crate::specs::Parts::asking))]
+fn slip_for(request: Request) -> Result<Held, Refusal>
+    ensures { numbered result ≡ asking request }
 {
-    if request.word_wrong() {
-        return refusal::WORD_WRONG;
-    }
-    if request.values_outside() {
-        return refusal::VALUE_OUTSIDE;
-    }
-    if request.rate_too_wide() {
-        return refusal::RATE_OUTSIDE;
-    }
-    0
+    refuse_if(request.word_wrong(), Refusal::WordWrong)?;
+    refuse_if(request.values_outside(), Refusal::ValueOutside)?;
+    refuse_if(request.rate_too_wide(), Refusal::RateOutside)?;
+    Ok(Held {
+        request: in_slip(request),
+    })
 }
 
-// Why it can't be written into a buffer of this size, 0 where it can.
-fn writing_refusal(request: Request, size: usize) -> u8
-    ensures { result ≡ first (writing_table request size) }
+// Writes a request in the version that it has into a buffer with room for it.
+fn write_slip(slip: Held, buffer: &mut [u8])
+    requires { slip_length slip ≤ length buffer.old }
+    ensures { buffer.new ≡ bytes_for slip ++ drop (slip_length slip) buffer.old }
 {
-    let r = asked_refusal(request);
-    if r != 0 {
-        return r;
-    }
-    let slip = in_slip(request);
-    if size < length_of(slip.word) {
-        return refusal::BUFFER_SHORT;
-    }
-    0
+    let sizes = sizes_of(slip.request.word);
+    let values = values_of(slip);
+    let packed = packed_of(sizes.layout, values);
+    fields::put_all(&mut *buffer, &packed);
 }
 
-// Writes a request whose arguments fit its word, in the version that it has, into a buffer with room for it.
-fn write_slip(request: Request, buffer: &mut [u8])
-    requires { T (not (values_outside request)) × T (not (rate_too_wide request)) × (slip_length request ≤ length buffer.old) }
-    ensures { buffer.new ≡ bytes_for request ++ drop (slip_length request) buffer.old }
+// Each value with its width. The widths are those of a layout, which reading shares.
+fn packed_of(widths: [usize; 6], values: [u64; 6]) -> [Packed; 6]
+    ensures widths { widths_in result ≡ widths }
+    ensures values { values_in result ≡ values }
 {
-    let sizes = sizes_of(request.word);
-    let layout = sizes.layout;
-    let values = values_of(request);
-    fields::put_all(&mut *buffer, &layout, &values);
+    array::from_fn(|i| Packed {
+        width: widths[i],
+        value: values[i],
+    })
 }
 
 // Header, synthetic, reference, rate, error and padding as a slip has them.
 #[tactic(auto, using(clock::proofs::Requests::synthetic_in_range, clock::proofs::Requests::reference_in_range, clock::proofs::Requests::rate_permitted), unfolding(crate::specs::Writing::values_of))]
-fn values_of(request: Request) -> [u64; 6]
-    requires { T (not (values_outside request)) × T (not (rate_too_wide request)) }
-    ensures { result ≡ values_of request }
+fn values_of(slip: Held) -> [u64; 6]
+    ensures { result ≡ values_of slip }
 {
+    let request = slip.request;
     let header = request.word / HEADER_UNIT;
     let flags = request.flags();
-    let synthetic = time_value(flags.synthetic, request.synthetic);
-    let reference = time_value(flags.reference, request.reference);
     let rate = rate_value(flags.rate, request.rate);
-    let error = error_value(flags.error, request.error);
+    let synthetic = if flags.synthetic {
+        request.synthetic as u64
+    } else {
+        0
+    };
+    let reference = if flags.reference {
+        request.reference as u64
+    } else {
+        0
+    };
+    let error = if flags.error { request.error } else { 0 };
     [header, synthetic, reference, rate, error, 0]
 }
 
-// A flagged argument as a slip has it, 0 for one that isn't flagged.
-fn time_value(flagged: bool, time: i64) -> u64
-    requires { T flagged → InRange time }
-    ensures { result ≡ cond flagged (nat_abs time) 0 }
-{
-    if flagged { time as u64 } else { 0 }
-}
-
+// A flagged rate as a slip has it, 0 for one that isn't flagged. As an `if` in its caller it leaves that one's proof
+// open.
 fn rate_value(flagged: bool, rate: i32) -> u64
     requires { T flagged → Permitted rate }
     ensures { result ≡ cond flagged (rate_field rate) 0 }
@@ -513,10 +407,4 @@ fn rate_value(flagged: bool, rate: i32) -> u64
     } else {
         0
     }
-}
-
-fn error_value(flagged: bool, error: u64) -> u64
-    ensures { result ≡ cond flagged error 0 }
-{
-    if flagged { error } else { 0 }
 }

@@ -7,8 +7,7 @@ use Prim.Native.Nat.{ℕ, zero, suc, ◌<◌}
 use native.Mathlib.Nat.{suc-ne-zero}
 use native.Mathlib.Omega.{arith}
 use lib.Dec.{T, ltb, eqb, ltb→lt}
-use borrow.Author.Tests.{ne_eqb}
-use Rattle.tables.specs.Tables.{Row, ◌when◌, first, answer_to, answer, NoneApplies, FirstApplies, Settled, next_of}
+use Rattle.tables.specs.Tables.{Row, ◌when◌, first, answer_to, answer, NoneApplies, FirstApplies, Settled}
 use mir.Facts.{and_yes}
 
 -- the test of the row with this number
@@ -99,29 +98,6 @@ first_alike ((m when a) ∷ rows) ((n when true) ∷ others) h =
     subst⁻¹ (λ (b : Bool). first ((m when b) ∷ rows) ≡ n) h.1 h.0
 first_alike ((m when a) ∷ rows) ((n when false) ∷ others) h =
     subst⁻¹ (λ (b : Bool). first ((m when b) ∷ rows) ≡ first others) h.1 (first_alike rows others (h.2 tt))
-
--- ---- a table walked row by row, as the code does
-
--- what was told so far, after the rows that are left
-abbrev pub walk : ℕ → List Row → ℕ
-walk r [] = r
-walk r ((n when b) ∷ rows) = walk (next_of r b n) rows
-
--- one row of a walk: the code's test is the row's
-pub row : (n : ℕ) {s r q : ℕ} {b b' : Bool} → s ≡ next_of r b n → r ≡ q → b ≡ b' → s ≡ next_of q b' n
-row n {q = q} {b = b} e h t = e ∙ ap (λ (x : ℕ). next_of x b n) h ∙ ap (λ (x : Bool). next_of q x n) t
-
-stays : (r : ℕ) (rows : List Row) → (r ≡ 0 → ⊥) → walk r rows ≡ r
-unfolding next_of
-stays r [] h = refl
-stays r ((n when b) ∷ rows) h = simp (ne_eqb r 0 h) (stays r rows h)
-
--- a walk from the head tells what the table does
-pub walk_first : (rows : List Row) → T (numbered rows) → walk 0 rows ≡ first rows
-unfolding next_of
-walk_first [] p = refl
-walk_first ((n when true) ∷ rows) p = stays n rows (told n rows p)
-walk_first ((n when false) ∷ rows) p = walk_first rows (and_yes (ltb 0 n) (numbered rows) p).1
 
 -- ---- the answer that a table gives
 

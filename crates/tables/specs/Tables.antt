@@ -11,7 +11,7 @@
 -- holds, `a ≡ b` that they are equal, and `a ≤ℤ b` (`≤` of ℕ) that a is at most b; `×` is and, `⊎` is or, `A → B` is
 -- if A then B, and `(t : ℤ) → ..` says it for every t; a record of statements says that each of its fields holds,
 -- `Unit` says nothing, and `⊥` is never true.
-use Rattle.std.specs.Prelude.{Bool, true, false, not, cond, List, [], ◌∷◌, ◌⊎◌, ◌≡◌, ℕ, zero, suc, T, eqb}
+use Rattle.std.specs.Prelude.{Bool, true, false, not, List, [], ◌∷◌, ◌⊎◌, ◌≡◌, ℕ, zero, suc, T}
 
 -- the refusal n applies where the test holds
 infix 68 ◌when◌
@@ -51,9 +51,3 @@ FirstApplies ((m when false) ∷ rows) n = FirstApplies rows n
 abbrev pub Settled : {A : Type 0} → List Row → A → A → (ℕ → A) → Type 0
 Settled rows told taken refused =
     (NoneApplies rows × (told ≡ taken)) ⊎ ((n : ℕ) × FirstApplies rows n × (told ≡ refused n))
-
--- ---- a table walked from its head, as the code does
-
--- what was told so far stands, else the row tells
-unfoldable pub next_of : ℕ → Bool → ℕ → ℕ
-next_of r test n = cond (eqb r 0) (cond test n 0) r

@@ -1,5 +1,5 @@
 -- What holds of every command's answer.
-use mathlib.Core.Path.{◌≡◌, refl, sym, ap, ◌∙◌, subst}
+use mathlib.Core.Path.{◌≡◌, refl, sym, ◌∙◌, subst}
 use mathlib.Core.Bool.{Bool, true, false, not, ◌&&◌, true≢false}
 use mathlib.Core.List.{List, [], ◌∷◌}
 use Prim.Native.Nat.{ℕ, zero, suc, ◌≤◌}
@@ -8,22 +8,23 @@ use lib.IntN.{ℤ}
 use lib.Dec.{T, eqb}
 use borrow.Author.Tests.{eq-eqb}
 use mir.Facts.{and_yes}
+use Rattle.std.specs.Prelude.{Option, Result}
+use Rattle.tables.specs.declared.Refusal.{Refusal}
+use Rattle.clock.specs.declared.Request.{Request}
+use Rattle.std.proofs.lemmas.Grind.{common_steps}
 use Rattle.tables.specs.Tables.{Row, ◌when◌, first, answer_to, answer}
 use Rattle.tables.proofs.Tables.{passed, answered, none_told, settled}
 use Rattle.tables.proofs.Tests.{is_false}
 use Rattle.clock.specs.Numbers.{rate_outside}
 use Rattle.clock.specs.Clock.{time_table}
 use Rattle.clock.specs.Taken.{guarded}
-use Rattle.clock.specs.Update.{wrong_unless, values_beyond, rate_too_wide, request_table, new_line_table, update_table}
+use Rattle.clock.specs.Update.{wrong_unless, values_beyond, rate_too_wide, alone_table, allowed_table, request_table, new_line_table, update_table}
 use Rattle.clock.specs.Calls.{update, call_table, refusal_of}
 use Rattle.clock.specs.declared.Clock.{Clock}
 use Rattle.clock.proofs.Rows.{refusal_is}
 use Rattle.panel.specs.Bits.{bits, nearest_whole}
 use Rattle.panel.specs.Panel.{quotient, trim_table, input_table, command_table, Translation, rate_request, update_to, refused_by, asked, translating, told}
-use Rattle.panel.specs.declared.Command.{Command}
 use Rattle.panel.specs.declared.Command.TheVariants.{Hold, Trim, Pull}
-use Rattle.panel.specs.declared.Translated.{Translated}
-use Rattle.panel.specs.declared.Translated.TheVariants.{NoUpdate, Update, Refused}
 use Rattle.translations.specs.Answers.{Demand1Translate, HoldHolds, OnlyHold, OneAnswer, Passes3To7, RequestPasses}
 
 pub demand1_translate : Demand1Translate
@@ -84,7 +85,7 @@ by_rule P a b c d e (suc (suc (suc (suc (suc (suc (suc (suc n)))))))) l h = absu
 
 rate_lacks : (a : ℤ) → rate_outside a ≡ false → (c : Clock) (now : ℤ) (n : ℕ) → 3 ≤ n → n ≤ 7 →
     T (lacks n (guarded c (update_table c (rate_request a) now)))
-unfolding guarded time_table request_table new_line_table update_table wrong_unless values_beyond rate_too_wide
+unfolding guarded time_table alone_table allowed_table request_table new_line_table update_table wrong_unless values_beyond rate_too_wide
 rate_lacks a f c now =
     by_rule (λ (n : ℕ). T (lacks n (guarded c (update_table c (rate_request a) now)))) tt tt tt (rw f tt) tt
 
@@ -112,37 +113,9 @@ request_passes (Pull o w) h r =
 
 -- ---- one answer
 
-has_word : (n : ℕ) (a : ℤ) → (told_rate n a).refusal ≡ 0 → (told_rate n a).request.word ≡ 0 → ⊥
-has_word zero a r e = omega (arith, e)
-has_word (suc n) a r e = omega (arith, r)
-
--- an answer that is neither hold's nor a refusal has a word, so that no refusal is told as 0
-no_zero : (c : Command) (n : ℕ) → told (Refused n) ≡ translating c → n ≡ 0 → ⊥
-unfolding translating
-no_zero Hold n p z = true≢false (sym (ap (λ (t : Translation). t.held) p))
-no_zero (Trim x) n p z =
-    has_word (first (command_table (Trim x))) (nearest_whole (bits x)) (sym (ap (λ (t : Translation). t.refusal) p) ∙ z)
-    (sym (ap (λ (t : Translation). t.request.word) p))
-no_zero (Pull o w) n p z =
-    has_word (first (command_table (Pull o w))) (nearest_whole (bits (quotient o w))) (sym (ap (λ (t : Translation). t.refusal) p) ∙ z)
-    (sym (ap (λ (t : Translation). t.request.word) p))
+-- answers that are told alike are the same: no refusal has the number 0, and no two have one number
+same_told : (a b : Result (Option Request) Refusal) → told a ≡ told b → a ≡ b
+same_told a b e = grind (arith, common_steps)
 
 pub one_answer : OneAnswer
-one_answer c a b p q = same a b p q (p ∙ sym q)
-  where
-    held : Translation → Bool
-    held t = t.held
-
-    refusal : Translation → ℕ
-    refusal t = t.refusal
-
-    same : (a b : Translated) → told a ≡ translating c → told b ≡ translating c → told a ≡ told b → a ≡ b
-    same NoUpdate NoUpdate p q e = refl
-    same NoUpdate (Update v) p q e = absurd (true≢false (ap held e))
-    same NoUpdate (Refused n) p q e = absurd (true≢false (ap held e))
-    same (Update u) NoUpdate p q e = absurd (true≢false (ap held (sym e)))
-    same (Update u) (Update v) p q e = ap (λ (t : Translation). Update t.request) e
-    same (Update u) (Refused n) p q e = absurd (no_zero c n q (ap refusal (sym e)))
-    same (Refused m) NoUpdate p q e = absurd (true≢false (ap held (sym e)))
-    same (Refused m) (Update v) p q e = absurd (no_zero c m p (ap refusal e))
-    same (Refused m) (Refused n) p q e = ap (λ (t : Translation). Refused t.refusal) e
+one_answer c a b p q = same_told a b (p ∙ sym q)

@@ -9,7 +9,7 @@ use lib.IntN.{ℤ, pos, negsuc, neg_ℤ, nat_abs, ◌+ℤ◌, ◌-ℤ◌, ◌*�
 use lib.Ieee.Nearest.{closest}
 use Rattle.tables.proofs.Tests.{by_cases}
 use Rattle.panel.specs.Bits.{signed}
-use Rattle.panel.proofs.Rounding.{less, more, half}
+use Rattle.translations.proofs.Rounding.{less, more, half}
 
 -- ---- a distance is the difference either way
 

@@ -1,3 +1,4 @@
+pub mod Rounding
 pub mod Distances
 pub mod AnswerProofs
 pub mod NearnessProofs

@@ -18,7 +18,7 @@ use Rattle.panel.specs.Panel.{float, quotient, trim_table, input_table, update_t
 use Rattle.panel.specs.declared.Command.TheVariants.{Trim}
 use Rattle.panel.proofs.Floats.{Says, pattern_says, bits_say, no_nan}
 use Rattle.panel.proofs.Tables.{bits_bad, trim_bad}
-use Rattle.translations.specs.Patterns.{Kept, PatternKept, TrimByPattern, is_above_zero, inputs_by_pattern, PullByPattern, Means, ExactValue}
+use Rattle.translations.specs.Patterns.{PatternKept, TrimByPattern, is_above_zero, inputs_by_pattern, PullByPattern, Means, ExactValue}
 
 -- one float is finite or not, whatever is known of it
 says_finite : (x : Float) (f g s t : Bool) (n m : ℕ) → Says x f s n → Says x g t m → f ≡ g

@@ -4,29 +4,27 @@
 
 mod life;
 mod requests;
+mod words;
 
-use crate::life::{again, create, generation, read, remainder, update};
-use clock::Clock;
+use clock::{Clock, Request};
+use life::Life;
 use std::io;
 
 // The creation word without a bit.
 const PLAIN: u8 = 0;
 
 fn main(rt: HostRuntime) -> io::Result<()> {
-    print::legend(&rt)?;
+    let end = Clock::END;
+    println!(&rt; "END is {end}, the last time and the highest value")?;
     case_1(&rt)?;
     case_2(&rt)?;
     case_3(&rt)?;
     case_4(&rt)?;
     case_5(&rt)?;
     case_6(&rt)?;
-    case_7(&rt, 1000)?;
-    case_7(&rt, 1001)?;
-    case_7(&rt, -1000)?;
-    case_7(&rt, -1001)?;
+    case_7(&rt)?;
     case_8(&rt)?;
-    case_9(&rt, 4)?;
-    case_9(&rt, 5)?;
+    case_9(&rt)?;
     case_10(&rt)?;
     case_11(&rt)?;
     case_13(&rt)?;
@@ -38,181 +36,158 @@ fn main(rt: HostRuntime) -> io::Result<()> {
 }
 
 // Case 1's clock, or one of another word: case 2 and some lives of R-9 go on with it.
-fn clock_1(rt: &impl Print, word: u8) -> io::Result<Clock> {
-    let c = create(rt, word, 0, 0)?;
-    let c = update(rt, c, requests::set(1500), 100)?;
-    read(rt, c, 350)?;
-    Ok(c)
+fn clock_1<'a, P: Print>(rt: &'a P, head: &str, word: u8) -> io::Result<Life<'a, P>> {
+    let mut life = Life::create(rt, head, word, 0, 0)?;
+    life.update(requests::set(1500), 100)?;
+    life.read(350)?;
+    Ok(life)
 }
 
 fn case_1(rt: &impl Print) -> io::Result<()> {
-    case(rt, 1)?;
-    clock_1(rt, PLAIN)?;
-    print::end(rt)
+    clock_1(rt, "case 1", PLAIN)?.end()
 }
 
 fn case_2(rt: &impl Print) -> io::Result<()> {
-    case(rt, 2)?;
-    let c = clock_1(rt, PLAIN)?;
-    let c = update(rt, c, requests::rate(-23), 1_000_100)?;
-    read(rt, c, 1_000_100)?;
-    read(rt, c, 2_000_100)?;
-    print::end(rt)
+    let mut life = clock_1(rt, "case 2", PLAIN)?;
+    life.update(requests::rate(-23), 1_000_100)?;
+    life.read(1_000_100)?;
+    life.read(2_000_100)?;
+    life.end()
 }
 
 fn case_3(rt: &impl Print) -> io::Result<()> {
-    case(rt, 3)?;
-    let c = create(rt, Clock::MONOTONIC | Clock::AUTO_START, 0, 0)?;
-    let c = update(rt, c, requests::rate_at(100, 1_000_000_000), 2_000_000_000)?;
-    read(rt, c, 2_000_000_000)?;
-    print::end(rt)
+    let mut life = Life::create(rt, "case 3", Clock::MONOTONIC | Clock::AUTO_START, 0, 0)?;
+    life.update(requests::rate_at(100, 1_000_000_000), 2_000_000_000)?;
+    life.read(2_000_000_000)?;
+    life.end()
 }
 
 fn case_4(rt: &impl Print) -> io::Result<()> {
-    case(rt, 4)?;
-    let c = create(rt, Clock::MONOTONIC | Clock::AUTO_START, 0, 0)?;
-    let c = update(rt, c, requests::rate_at(-100, 1_000_000_000), 2_000_000_000)?;
-    let c = update(rt, c, requests::rate_at(-100, 3_000_000_000), 2_000_000_000)?;
-    read(rt, c, 2_000_000_000)?;
-    print::end(rt)
+    let mut life = Life::create(rt, "case 4", Clock::MONOTONIC | Clock::AUTO_START, 0, 0)?;
+    life.update(requests::rate_at(-100, 1_000_000_000), 2_000_000_000)?;
+    life.update(requests::rate_at(-100, 3_000_000_000), 2_000_000_000)?;
+    life.read(2_000_000_000)?;
+    life.end()
 }
 
 fn case_5(rt: &impl Print) -> io::Result<()> {
-    case(rt, 5)?;
-    let c = create(rt, PLAIN, 0, 0)?;
-    let c = update(rt, c, requests::set_at_with_rate(10, 10, 1), 9)?;
-    read(rt, c, 9)?;
-    read(rt, c, 10)?;
-    print::end(rt)
+    let mut life = Life::create(rt, "case 5", PLAIN, 0, 0)?;
+    life.update(requests::set_at_with_rate(10, 10, 1), 9)?;
+    life.read(9)?;
+    life.read(10)?;
+    life.end()
 }
 
 fn case_6(rt: &impl Print) -> io::Result<()> {
-    case(rt, 6)?;
-    let c = create(rt, PLAIN, 0, 0)?;
-    let c = update(rt, c, requests::set_with_rate(0, -1), 0)?;
-    let c = update(rt, c, requests::rate(-1), 1)?;
-    let c = update(rt, c, requests::rate(-1), 2)?;
-    read(rt, c, 3)?;
-    print::end(rt)
+    let mut life = Life::create(rt, "case 6", PLAIN, 0, 0)?;
+    life.update(requests::set_with_rate(0, -1), 0)?;
+    life.update(requests::rate(-1), 1)?;
+    life.update(requests::rate(-1), 2)?;
+    life.read(3)?;
+    life.end()
 }
 
-fn case_7(rt: &impl Print, rate: i32) -> io::Result<()> {
-    case(rt, 7)?;
-    let c = create(rt, PLAIN, 0, 0)?;
-    update(rt, c, requests::set_with_rate(1500, rate), 100)?;
-    print::end(rt)
+fn case_7(rt: &impl Print) -> io::Result<()> {
+    for rate in [1000, 1001, -1000, -1001] {
+        let mut life = Life::create(rt, "case 7", PLAIN, 0, 0)?;
+        life.update(requests::set_with_rate(1500, rate), 100)?;
+        life.end()?;
+    }
+    Ok(())
 }
 
 fn case_8(rt: &impl Print) -> io::Result<()> {
-    case(rt, 8)?;
-    let c = create(rt, PLAIN, 1000, 0)?;
-    let c = update(rt, c, requests::set(999), 0)?;
-    update(rt, c, requests::set(1000), 0)?;
-    print::end(rt)
+    let mut life = Life::create(rt, "case 8", PLAIN, 1000, 0)?;
+    life.update(requests::set(999), 0)?;
+    life.update(requests::set(1000), 0)?;
+    life.end()
 }
 
-fn case_9(rt: &impl Print, now: i64) -> io::Result<()> {
-    case(rt, 9)?;
-    create(rt, Clock::AUTO_START, 5, now)?;
-    print::end(rt)
+fn case_9(rt: &impl Print) -> io::Result<()> {
+    for now in [4, 5] {
+        Life::create(rt, "case 9", Clock::AUTO_START, 5, now)?.end()?;
+    }
+    Ok(())
 }
 
 fn case_10(rt: &impl Print) -> io::Result<()> {
-    case(rt, 10)?;
-    let c = create(rt, PLAIN, 0, 0)?;
-    let c = update(rt, c, requests::version_3(requests::set(Clock::END)), 0)?;
-    read(rt, c, 0)?;
-    read(rt, c, 1)?;
-    print::end(rt)
+    let mut life = Life::create(rt, "case 10", PLAIN, 0, 0)?;
+    life.update(requests::version_3(requests::set(Clock::END)), 0)?;
+    life.read(0)?;
+    life.read(1)?;
+    life.end()
 }
 
 fn case_11(rt: &impl Print) -> io::Result<()> {
-    case(rt, 11)?;
-    let c = create(rt, Clock::MONOTONIC, 10, 0)?;
-    let c = update(rt, c, requests::set(20), 0)?;
-    read(rt, c, 0)?;
-    update(rt, c, requests::set(5), 0)?;
-    print::end(rt)
+    let mut life = Life::create(rt, "case 11", Clock::MONOTONIC, 10, 0)?;
+    life.update(requests::set(20), 0)?;
+    life.read(0)?;
+    life.update(requests::set(5), 0)?;
+    life.end()
 }
 
 // Every legal creation word, not started and started; a clock with auto start is always started.
 fn case_13(rt: &impl Print) -> io::Result<()> {
-    reference_and_error(rt, PLAIN)?;
-    reference_and_error_started(rt, PLAIN)?;
-    reference_and_error(rt, Clock::AUTO_START)?;
-    reference_and_error(rt, Clock::MONOTONIC)?;
-    reference_and_error_started(rt, Clock::MONOTONIC)?;
-    reference_and_error(rt, Clock::MONOTONIC | Clock::AUTO_START)?;
-    reference_and_error(rt, Clock::MONOTONIC | Clock::CONTINUOUS)?;
-    reference_and_error_started(rt, Clock::MONOTONIC | Clock::CONTINUOUS)?;
-    reference_and_error(rt, Clock::MONOTONIC | Clock::CONTINUOUS | Clock::AUTO_START)?;
-    reference_and_rate_started(rt, Clock::MONOTONIC | Clock::CONTINUOUS)?;
-    reference_and_rate(rt, Clock::MONOTONIC | Clock::CONTINUOUS | Clock::AUTO_START)
+    let continuous = Clock::MONOTONIC | Clock::CONTINUOUS;
+    for (word, is_set) in [
+        (PLAIN, false),
+        (PLAIN, true),
+        (Clock::AUTO_START, false),
+        (Clock::MONOTONIC, false),
+        (Clock::MONOTONIC, true),
+        (Clock::MONOTONIC | Clock::AUTO_START, false),
+        (continuous, false),
+        (continuous, true),
+        (continuous | Clock::AUTO_START, false),
+    ] {
+        asked_at_20(rt, word, is_set, requests::error_at(7, 30))?;
+    }
+    asked_at_20(rt, continuous, true, requests::rate_at(1, 30))?;
+    asked_at_20(
+        rt,
+        continuous | Clock::AUTO_START,
+        false,
+        requests::rate_at(1, 30),
+    )
 }
 
-fn reference_and_error(rt: &impl Print, word: u8) -> io::Result<()> {
-    case(rt, 13)?;
-    let c = create(rt, word, 0, 0)?;
-    update(rt, c, requests::error_at(7, 30), 20)?;
-    print::end(rt)
-}
-
-fn reference_and_error_started(rt: &impl Print, word: u8) -> io::Result<()> {
-    case(rt, 13)?;
-    let c = started(rt, word)?;
-    update(rt, c, requests::error_at(7, 30), 20)?;
-    print::end(rt)
-}
-
-fn reference_and_rate(rt: &impl Print, word: u8) -> io::Result<()> {
-    case(rt, 13)?;
-    let c = create(rt, word, 0, 0)?;
-    update(rt, c, requests::rate_at(1, 30), 20)?;
-    print::end(rt)
-}
-
-fn reference_and_rate_started(rt: &impl Print, word: u8) -> io::Result<()> {
-    case(rt, 13)?;
-    let c = started(rt, word)?;
-    update(rt, c, requests::rate_at(1, 30), 20)?;
-    print::end(rt)
-}
-
-fn started(rt: &impl Print, word: u8) -> io::Result<Clock> {
-    let c = create(rt, word, 0, 0)?;
-    update(rt, c, requests::set(1500), 10)
+// A clock as it was created, or set at 10.
+fn asked_at_20(rt: &impl Print, word: u8, is_set: bool, request: Request) -> io::Result<()> {
+    let mut life = Life::create(rt, "case 13", word, 0, 0)?;
+    if is_set {
+        life.update(requests::set(1500), 10)?;
+    }
+    life.update(request, 20)?;
+    life.end()
 }
 
 // Set to one less than the present reading, and to the reading.
 fn case_14(rt: &impl Print) -> io::Result<()> {
-    case(rt, 14)?;
-    let c = create(rt, Clock::MONOTONIC, 10, 0)?;
-    let c = update(rt, c, requests::set(20), 0)?;
-    read(rt, c, 5)?;
-    let c = update(rt, c, requests::set(24), 5)?;
-    let c = update(rt, c, requests::set(25), 5)?;
-    read(rt, c, 5)?;
-    print::end(rt)?;
-    case(rt, 14)?;
-    let c = create(rt, Clock::MONOTONIC | Clock::AUTO_START, 0, 0)?;
-    read(rt, c, 5)?;
-    let c = update(rt, c, requests::set(4), 5)?;
-    let c = update(rt, c, requests::set(5), 5)?;
-    read(rt, c, 5)?;
-    print::end(rt)
+    let mut life = Life::create(rt, "case 14", Clock::MONOTONIC, 10, 0)?;
+    life.update(requests::set(20), 0)?;
+    life.read(5)?;
+    life.update(requests::set(24), 5)?;
+    life.update(requests::set(25), 5)?;
+    life.read(5)?;
+    life.end()?;
+    let mut life = Life::create(rt, "case 14", Clock::MONOTONIC | Clock::AUTO_START, 0, 0)?;
+    life.read(5)?;
+    life.update(requests::set(4), 5)?;
+    life.update(requests::set(5), 5)?;
+    life.read(5)?;
+    life.end()
 }
 
 // An error bound alone is refused before the start, and counts after it.
 fn request_2(rt: &impl Print) -> io::Result<()> {
-    head(rt, b"R-", 2)?;
-    let c = create(rt, PLAIN, 0, 0)?;
-    let c = update(rt, c, requests::error(50), 50)?;
-    generation(rt, c, 50)?;
-    let c = update(rt, c, requests::set(1500), 100)?;
-    generation(rt, c, 100)?;
-    let c = update(rt, c, requests::error(50), 200)?;
-    generation(rt, c, 200)?;
-    print::end(rt)
+    let mut life = Life::create(rt, "R-2", PLAIN, 0, 0)?;
+    life.update(requests::error(50), 50)?;
+    life.generation(50)?;
+    life.update(requests::set(1500), 100)?;
+    life.generation(100)?;
+    life.update(requests::error(50), 200)?;
+    life.generation(200)?;
+    life.end()
 }
 
 // A line keeps its remainder.
@@ -226,86 +201,79 @@ fn request_7(rt: &impl Print) -> io::Result<()> {
 
 // A rate alone keeps what is beside the whole value, an error bound leaves it, a value clears it.
 fn remainders(rt: &impl Print) -> io::Result<()> {
-    head(rt, b"R-", 7)?;
-    let c = create(rt, PLAIN, 0, 0)?;
-    let c = update(rt, c, requests::set_with_rate(0, -1), 0)?;
-    remainder(rt, c, 0)?;
-    let c = update(rt, c, requests::rate(-1), 1)?;
-    remainder(rt, c, 1)?;
-    read(rt, c, 1)?;
-    let c = update(rt, c, requests::rate(-1), 2)?;
-    remainder(rt, c, 2)?;
-    read(rt, c, 2)?;
-    let c = update(rt, c, requests::error(50), 3)?;
-    remainder(rt, c, 3)?;
-    let c = update(rt, c, requests::set(2), 3)?;
-    remainder(rt, c, 3)?;
-    read(rt, c, 4)?;
-    print::end(rt)
+    let mut life = Life::create(rt, "R-7", PLAIN, 0, 0)?;
+    life.update(requests::set_with_rate(0, -1), 0)?;
+    life.remainder(0)?;
+    life.update(requests::rate(-1), 1)?;
+    life.remainder(1)?;
+    life.read(1)?;
+    life.update(requests::rate(-1), 2)?;
+    life.remainder(2)?;
+    life.read(2)?;
+    life.update(requests::error(50), 3)?;
+    life.remainder(3)?;
+    life.update(requests::set(2), 3)?;
+    life.remainder(3)?;
+    life.read(4)?;
+    life.end()
 }
 
 // A thousand changes of the rate lose nothing.
 fn trims(rt: &impl Print) -> io::Result<()> {
-    head(rt, b"R-", 7)?;
-    let c = create(rt, PLAIN, 0, 0)?;
-    let c = update(rt, c, requests::set_with_rate(0, -1), 0)?;
-    let c = again(rt, c, requests::rate(-1), 1000)?;
-    generation(rt, c, 1000)?;
-    read(rt, c, 1001)?;
-    print::end(rt)
+    let mut life = Life::create(rt, "R-7", PLAIN, 0, 0)?;
+    life.update(requests::set_with_rate(0, -1), 0)?;
+    life.again(requests::rate(-1), 1000)?;
+    life.generation(1000)?;
+    life.read(1001)?;
+    life.end()
 }
 
 // A line turned before its reference, and one that is read before it.
 fn remainders_of_other_times(rt: &impl Print) -> io::Result<()> {
-    head(rt, b"R-", 7)?;
-    let c = create(rt, PLAIN, 0, 0)?;
-    let c = update(rt, c, requests::set_at_with_rate(20, 20, 1), 19)?;
-    let c = update(rt, c, requests::rate_at(1, 19), 19)?;
-    remainder(rt, c, 19)?;
-    read(rt, c, 19)?;
-    read(rt, c, 20)?;
-    print::end(rt)?;
-    head(rt, b"R-", 7)?;
-    let c = create(rt, PLAIN, 0, 0)?;
-    let c = update(rt, c, requests::set_with_rate(0, -1), 0)?;
-    let c = update(rt, c, requests::rate_at(-1, 10), 0)?;
-    remainder(rt, c, 0)?;
-    read(rt, c, 0)?;
-    read(rt, c, 4)?;
-    read(rt, c, 10)?;
-    print::end(rt)
+    let mut life = Life::create(rt, "R-7", PLAIN, 0, 0)?;
+    life.update(requests::set_at_with_rate(20, 20, 1), 19)?;
+    life.update(requests::rate_at(1, 19), 19)?;
+    life.remainder(19)?;
+    life.read(19)?;
+    life.read(20)?;
+    life.end()?;
+    let mut life = Life::create(rt, "R-7", PLAIN, 0, 0)?;
+    life.update(requests::set_with_rate(0, -1), 0)?;
+    life.update(requests::rate_at(-1, 10), 0)?;
+    life.remainder(0)?;
+    life.read(0)?;
+    life.read(4)?;
+    life.read(10)?;
+    life.end()
 }
 
 // Below 0 there is no S0, whatever is beside it.
 fn remainders_of_refused_lines(rt: &impl Print) -> io::Result<()> {
-    head(rt, b"R-", 7)?;
-    let c = create(rt, PLAIN, 0, 0)?;
-    let c = update(rt, c, requests::set_at_with_rate(0, 10, -1), 10)?;
-    let c = update(rt, c, requests::rate_at(-1, 9), 10)?;
-    remainder(rt, c, 10)?;
-    print::end(rt)
+    let mut life = Life::create(rt, "R-7", PLAIN, 0, 0)?;
+    life.update(requests::set_at_with_rate(0, 10, -1), 10)?;
+    life.update(requests::rate_at(-1, 9), 10)?;
+    life.remainder(10)?;
+    life.end()
 }
 
 // On a monotonic clock 14 compares whole values; an automatic start begins with no remainder.
 fn remainders_of_other_clocks(rt: &impl Print) -> io::Result<()> {
-    head(rt, b"R-", 7)?;
-    let c = create(rt, Clock::MONOTONIC, 0, 0)?;
-    remainder(rt, c, 0)?;
-    let c = update(rt, c, requests::set_with_rate(0, -1), 0)?;
-    let c = update(rt, c, requests::rate(-1), 1)?;
-    let c = update(rt, c, requests::set(0), 2)?;
-    let c = update(rt, c, requests::set(1), 2)?;
-    read(rt, c, 2)?;
-    print::end(rt)?;
-    head(rt, b"R-", 7)?;
-    let c = create(rt, Clock::AUTO_START, 0, 0)?;
-    remainder(rt, c, 0)?;
-    let c = update(rt, c, requests::rate(-1), 1)?;
-    remainder(rt, c, 1)?;
-    let c = update(rt, c, requests::rate(0), 2)?;
-    remainder(rt, c, 2)?;
-    read(rt, c, 2)?;
-    print::end(rt)
+    let mut life = Life::create(rt, "R-7", Clock::MONOTONIC, 0, 0)?;
+    life.remainder(0)?;
+    life.update(requests::set_with_rate(0, -1), 0)?;
+    life.update(requests::rate(-1), 1)?;
+    life.update(requests::set(0), 2)?;
+    life.update(requests::set(1), 2)?;
+    life.read(2)?;
+    life.end()?;
+    let mut life = Life::create(rt, "R-7", Clock::AUTO_START, 0, 0)?;
+    life.remainder(0)?;
+    life.update(requests::rate(-1), 1)?;
+    life.remainder(1)?;
+    life.update(requests::rate(0), 2)?;
+    life.remainder(2)?;
+    life.read(2)?;
+    life.end()
 }
 
 // A running clock's rate steps by 200 at most.
@@ -318,140 +286,114 @@ fn request_9(rt: &impl Print) -> io::Result<()> {
 }
 
 fn steps_from_0(rt: &impl Print) -> io::Result<()> {
-    head(rt, b"R-", 9)?;
-    let c = clock_1(rt, PLAIN)?;
-    let c = update(rt, c, requests::rate(201), 350)?;
-    let c = update(rt, c, requests::rate(-201), 350)?;
-    let c = update(rt, c, requests::rate(1001), 350)?;
-    update(rt, c, requests::rate(200), 350)?;
-    print::end(rt)?;
-    head(rt, b"R-", 9)?;
-    let c = clock_1(rt, PLAIN)?;
-    update(rt, c, requests::rate(-200), 350)?;
-    print::end(rt)
+    let mut life = clock_1(rt, "R-9", PLAIN)?;
+    life.update(requests::rate(201), 350)?;
+    life.update(requests::rate(-201), 350)?;
+    life.update(requests::rate(1001), 350)?;
+    life.update(requests::rate(200), 350)?;
+    life.end()?;
+    let mut life = clock_1(rt, "R-9", PLAIN)?;
+    life.update(requests::rate(-200), 350)?;
+    life.end()
 }
 
 // An automatic start is at 0.
 fn steps_from_another_rate(rt: &impl Print) -> io::Result<()> {
-    head(rt, b"R-", 9)?;
-    let c = create(rt, PLAIN, 0, 0)?;
-    let c = update(rt, c, requests::set_with_rate(1500, 100), 100)?;
-    let c = update(rt, c, requests::rate(-101), 350)?;
-    update(rt, c, requests::rate(-100), 350)?;
-    print::end(rt)?;
-    head(rt, b"R-", 9)?;
-    let c = create(rt, Clock::AUTO_START, 0, 0)?;
-    let c = update(rt, c, requests::rate(201), 350)?;
-    update(rt, c, requests::rate(200), 350)?;
-    print::end(rt)
+    let mut life = Life::create(rt, "R-9", PLAIN, 0, 0)?;
+    life.update(requests::set_with_rate(1500, 100), 100)?;
+    life.update(requests::rate(-101), 350)?;
+    life.update(requests::rate(-100), 350)?;
+    life.end()?;
+    let mut life = Life::create(rt, "R-9", Clock::AUTO_START, 0, 0)?;
+    life.update(requests::rate(201), 350)?;
+    life.update(requests::rate(200), 350)?;
+    life.end()
 }
 
 // A start is free of it, and so is a value without a rate.
 fn steps_with_a_value(rt: &impl Print) -> io::Result<()> {
-    head(rt, b"R-", 9)?;
-    let c = create(rt, Clock::MONOTONIC | Clock::CONTINUOUS, 0, 0)?;
-    update(rt, c, requests::set_with_rate(1500, 1000), 100)?;
-    print::end(rt)?;
-    head(rt, b"R-", 9)?;
-    let c = create(rt, PLAIN, 0, 0)?;
-    let c = update(rt, c, requests::set_with_rate(1500, 1000), 100)?;
-    let c = update(rt, c, requests::set_with_rate(1750, 799), 350)?;
-    let c = update(rt, c, requests::set_with_rate(1750, 800), 350)?;
-    update(rt, c, requests::set(1750), 350)?;
-    print::end(rt)
+    let mut life = Life::create(rt, "R-9", Clock::MONOTONIC | Clock::CONTINUOUS, 0, 0)?;
+    life.update(requests::set_with_rate(1500, 1000), 100)?;
+    life.end()?;
+    let mut life = Life::create(rt, "R-9", PLAIN, 0, 0)?;
+    life.update(requests::set_with_rate(1500, 1000), 100)?;
+    life.update(requests::set_with_rate(1750, 799), 350)?;
+    life.update(requests::set_with_rate(1750, 800), 350)?;
+    life.update(requests::set(1750), 350)?;
+    life.end()
 }
 
 // 11 comes first, then 22, then 12.
 fn steps_between_11_and_12(rt: &impl Print) -> io::Result<()> {
-    head(rt, b"R-", 9)?;
-    let c = clock_1(rt, Clock::MONOTONIC)?;
-    update(rt, c, requests::set_with_rate(1750, 201), 350)?;
-    print::end(rt)?;
-    head(rt, b"R-", 9)?;
-    let c = create(rt, PLAIN, 0, 0)?;
-    let c = update(rt, c, requests::version_3(requests::set(Clock::END)), 0)?;
-    let c = update(rt, c, requests::rate(200), 1)?;
-    update(rt, c, requests::rate(201), 1)?;
-    print::end(rt)
+    let mut life = clock_1(rt, "R-9", Clock::MONOTONIC)?;
+    life.update(requests::set_with_rate(1750, 201), 350)?;
+    life.end()?;
+    let mut life = Life::create(rt, "R-9", PLAIN, 0, 0)?;
+    life.update(requests::version_3(requests::set(Clock::END)), 0)?;
+    life.update(requests::rate(200), 1)?;
+    life.update(requests::rate(201), 1)?;
+    life.end()
 }
 
 // 13 and 14 come behind it too.
 fn steps_before_13_and_14(rt: &impl Print) -> io::Result<()> {
-    head(rt, b"R-", 9)?;
-    let c = create(rt, PLAIN, 1000, 0)?;
-    let c = update(rt, c, requests::set(1000), 0)?;
-    let c = update(rt, c, requests::rate_at(200, 1000), 0)?;
-    update(rt, c, requests::rate_at(201, 1000), 0)?;
-    print::end(rt)?;
-    head(rt, b"R-", 9)?;
-    let c = create(rt, Clock::MONOTONIC | Clock::AUTO_START, 0, 0)?;
-    let c = update(rt, c, requests::rate_at(-200, 1_000_000_000), 2_000_000_000)?;
-    update(rt, c, requests::rate_at(-201, 1_000_000_000), 2_000_000_000)?;
-    print::end(rt)
+    let mut life = Life::create(rt, "R-9", PLAIN, 1000, 0)?;
+    life.update(requests::set(1000), 0)?;
+    life.update(requests::rate_at(200, 1000), 0)?;
+    life.update(requests::rate_at(201, 1000), 0)?;
+    life.end()?;
+    let mut life = Life::create(rt, "R-9", Clock::MONOTONIC | Clock::AUTO_START, 0, 0)?;
+    life.update(requests::rate_at(-200, 1_000_000_000), 2_000_000_000)?;
+    life.update(requests::rate_at(-201, 1_000_000_000), 2_000_000_000)?;
+    life.end()
 }
 
 fn request_11(rt: &impl Print) -> io::Result<()> {
     end_of_version_2(rt)?;
     sums_past_64_bits(rt)?;
     compared_past_64_bits(rt)?;
-    head(rt, b"R-", 11)?;
-    let c = create(rt, PLAIN, Clock::END, Clock::END)?;
-    read(rt, c, Clock::END)?;
-    print::end(rt)
+    let mut life = Life::create(rt, "R-11", PLAIN, Clock::END, Clock::END)?;
+    life.read(Clock::END)?;
+    life.end()
 }
 
 // A version 2 word keeps the old end, for the value and for the reference.
 fn end_of_version_2(rt: &impl Print) -> io::Result<()> {
     let past = Clock::VERSION_2_END + 1;
-    head(rt, b"R-", 11)?;
-    let c = create(rt, PLAIN, 0, 0)?;
-    let c = update(rt, c, requests::set(past), 0)?;
-    let c = update(rt, c, requests::set_at(0, past), 0)?;
-    let c = update(rt, c, requests::version_3(requests::set(past)), 0)?;
-    read(rt, c, 0)?;
-    let c = update(rt, c, requests::set(Clock::VERSION_2_END), 0)?;
-    read(rt, c, 1)?;
-    print::end(rt)
+    let mut life = Life::create(rt, "R-11", PLAIN, 0, 0)?;
+    life.update(requests::set(past), 0)?;
+    life.update(requests::set_at(0, past), 0)?;
+    life.update(requests::version_3(requests::set(past)), 0)?;
+    life.read(0)?;
+    life.update(requests::set(Clock::VERSION_2_END), 0)?;
+    life.read(1)?;
+    life.end()
 }
 
 // Values past 2^63 and past 2^64 are above END, and don't wrap.
 fn sums_past_64_bits(rt: &impl Print) -> io::Result<()> {
     let end = requests::version_3(requests::set(Clock::END));
-    head(rt, b"R-", 11)?;
-    let c = create(rt, PLAIN, 0, 0)?;
-    let c = update(rt, c, end, 0)?;
-    read(rt, c, Clock::END)?;
+    let mut life = Life::create(rt, "R-11", PLAIN, 0, 0)?;
+    life.update(end, 0)?;
+    life.read(Clock::END)?;
     let steep = requests::set_at_with_rate(Clock::END, 0, 200);
-    let c = update(rt, c, requests::version_3(steep), Clock::END)?;
+    life.update(requests::version_3(steep), Clock::END)?;
     let level = requests::set_at(Clock::END - 1, 0);
-    let c = update(rt, c, requests::version_3(level), Clock::END)?;
-    let c = update(rt, c, end, Clock::END)?;
-    read(rt, c, Clock::END)?;
-    print::end(rt)
+    life.update(requests::version_3(level), Clock::END)?;
+    life.update(end, Clock::END)?;
+    life.read(Clock::END)?;
+    life.end()
 }
 
 // So are values far below 0 for rule 13, and an old value past 2^63 for rule 14.
 fn compared_past_64_bits(rt: &impl Print) -> io::Result<()> {
-    head(rt, b"R-", 11)?;
-    let c = create(rt, PLAIN, 0, 0)?;
+    let mut life = Life::create(rt, "R-11", PLAIN, 0, 0)?;
     let late = requests::set_at_with_rate(0, Clock::END, 1000);
-    update(rt, c, requests::version_3(late), 0)?;
-    print::end(rt)?;
+    life.update(requests::version_3(late), 0)?;
+    life.end()?;
     let end = requests::version_3(requests::set(Clock::END));
-    head(rt, b"R-", 11)?;
-    let c = create(rt, Clock::MONOTONIC, 0, 0)?;
-    let c = update(rt, c, end, 0)?;
-    update(rt, c, end, Clock::END)?;
-    print::end(rt)
-}
-
-fn case(rt: &impl Print, n: u64) -> io::Result<()> {
-    head(rt, b"case ", n)
-}
-
-// A line's head, as 'case 1: '.
-fn head(rt: &impl Print, name: &[u8], n: u64) -> io::Result<()> {
-    print::write(rt, name)?;
-    print::number(rt, n)?;
-    print::write(rt, b": ")
+    let mut life = Life::create(rt, "R-11", Clock::MONOTONIC, 0, 0)?;
+    life.update(end, 0)?;
+    life.update(end, Clock::END)?;
+    life.end()
 }

@@ -2,61 +2,78 @@
 use clock::Request;
 
 pub fn set(synthetic: i64) -> Request {
-    request(Request::SYNTHETIC, synthetic, 0, 0, 0)
+    Request {
+        synthetic,
+        ..flagging(Request::SYNTHETIC)
+    }
 }
 
 pub fn set_at(synthetic: i64, reference: i64) -> Request {
-    request(
-        Request::SYNTHETIC | Request::REFERENCE,
+    Request {
         synthetic,
         reference,
-        0,
-        0,
-    )
+        ..flagging(Request::SYNTHETIC | Request::REFERENCE)
+    }
 }
 
 pub fn set_with_rate(synthetic: i64, rate: i32) -> Request {
-    request(Request::SYNTHETIC | Request::RATE, synthetic, 0, rate, 0)
+    Request {
+        synthetic,
+        rate,
+        ..flagging(Request::SYNTHETIC | Request::RATE)
+    }
 }
 
 pub fn set_at_with_rate(synthetic: i64, reference: i64, rate: i32) -> Request {
-    let flags = Request::SYNTHETIC | Request::REFERENCE | Request::RATE;
-    request(flags, synthetic, reference, rate, 0)
+    Request {
+        synthetic,
+        reference,
+        rate,
+        ..flagging(Request::SYNTHETIC | Request::REFERENCE | Request::RATE)
+    }
 }
 
 pub fn rate(rate: i32) -> Request {
-    request(Request::RATE, 0, 0, rate, 0)
+    Request {
+        rate,
+        ..flagging(Request::RATE)
+    }
 }
 
 pub fn rate_at(rate: i32, reference: i64) -> Request {
-    request(Request::REFERENCE | Request::RATE, 0, reference, rate, 0)
+    Request {
+        reference,
+        rate,
+        ..flagging(Request::REFERENCE | Request::RATE)
+    }
 }
 
 pub fn error(error: u64) -> Request {
-    request(Request::ERROR, 0, 0, 0, error)
+    Request {
+        error,
+        ..flagging(Request::ERROR)
+    }
 }
 
 pub fn error_at(error: u64, reference: i64) -> Request {
-    request(Request::REFERENCE | Request::ERROR, 0, reference, 0, error)
+    Request {
+        reference,
+        error,
+        ..flagging(Request::REFERENCE | Request::ERROR)
+    }
 }
 
 // The same in version 3.
 pub fn version_3(request: Request) -> Request {
     Request {
         word: request.word | Request::VERSION_3,
-        synthetic: request.synthetic,
-        reference: request.reference,
-        rate: request.rate,
-        error: request.error,
+        ..request
     }
 }
 
-fn request(flags: u64, synthetic: i64, reference: i64, rate: i32, error: u64) -> Request {
+fn flagging(flags: u64) -> Request {
     Request {
         word: Request::VERSION_2 | flags,
-        synthetic,
-        reference,
-        rate,
-        error,
+        ..Request::default()
     }
 }

@@ -1,9 +1,9 @@
+use mathlib.Core.Bool.{cond}
 use mathlib.Core.Path.{◌≡◌, sym, ap, ◌∙◌, subst}
 use lib.Dec.{T}
 use mir.Syntax.{w32, w64}
 use mir.Val.{to_z, of_z}
 use mir.ValLaws.{to_z-of_z}
-use Rattle.clock.specs.Parts.{rate_or}
 use Rattle.clock.specs.Update.{has_rate}
 use Rattle.clock.specs.declared.Flags.{Flags}
 use Rattle.clock.proofs.Requests.{synthetic_in_range}
@@ -18,8 +18,9 @@ returns-then-flags c =
     let set = ap (λ (f : Flags). f.synthetic) (sym c.flags-flags.ensures) ∙ c.if-flags.true in
     let synthetic : to_z w64 (of_z w64 u.synthetic) ≡ u.synthetic = search rules in
     let old_rate : to_z w32 (of_z w32 old.rate) ≡ old.rate = search rules in
-    let back : to_z w32 (of_z w32 c.rate_or-rate.result) ≡ c.rate_or-rate.result = search rules in
-    let new : to_z w32 (of_z w32 c.rate_or-rate.result) ≡ rate_or u old.rate = back ∙ c.rate_or-rate.ensures ∙ simp old_rate in
+    let new_rate : to_z w32 (of_z w32 u.rate) ≡ u.rate = search rules in
+    let back : to_z w32 (of_z w32 c.flagged_or.result) ≡ c.flagged_or.result = search rules in
+    let new : to_z w32 (of_z w32 c.flagged_or.result) ≡ cond (has_rate u) u.rate old.rate = back ∙ c.flagged_or.ensures ∙ simp (c.flags-flags.ensures, old_rate, new_rate) in
     simp (to_z-of_z w64 _ c.ranges.point, synthetic, new, set)
     (set_drawn (has_rate u) old c.args.point u.synthetic u.rate (synthetic_in_range u c.requires.0 (subst T (sym set) tt)))
 

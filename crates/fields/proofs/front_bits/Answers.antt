@@ -3,4 +3,4 @@ use Rattle.fields.proofs.Waiting.{front_word}
 use Rattle.fields.proofs.front_bits.Goals as goal
 
 pub returns : goal.returns
-returns c = rw c.wide.ensures (front_word c.args.byte c.args.count c.ranges.byte.fits c.requires)
+returns c = rw c.from.ensures (front_word c.args.byte c.args.count c.ranges.byte.fits c.requires)

@@ -16,36 +16,27 @@ pub loop-i-init : goal.loop-i-init
 loop-i-init c =
     let a = c.args in
     let none : 0 ≡ 8 * (a.first - a.first) = omega arith in
-    record {
-      begun = omega arith;
-      within = omega arith;
-      taken = sym (field_none a.bytes.now (8 * a.first)) ∙ ap (field a.bytes.now (8 * a.first)) none;
-    }
+    sym (field_none a.bytes.now (8 * a.first)) ∙ ap (field a.bytes.now (8 * a.first)) none
 
 pub overflow_mul-number : goal.overflow_mul-number
 overflow_mul-number c =
     let a = c.args in
     let l = c.loop-i in
-    let room : l.number < 2 ^ 56 = short a.bytes.now a.first l.i l.number (omega arith) l.invariant.taken (omega arith) (omega arith) in
+    let room : l.number < 2 ^ 56 = short a.bytes.now a.first l.i l.number (omega arith) l.invariant (omega arith) (omega arith) in
     record { fits = omega arith }
 
 pub overflow_add-number : goal.overflow_add-number
 overflow_add-number c =
     let a = c.args in
     let l = c.loop-i in
-    let room : l.number < 2 ^ 56 = short a.bytes.now a.first l.i l.number (omega arith) l.invariant.taken (omega arith) (omega arith) in
-    record { fits = omega (arith, c.wide.ensures, (c.type_inv.bytes l.i).fits) }
+    let room : l.number < 2 ^ 56 = short a.bytes.now a.first l.i l.number (omega arith) l.invariant (omega arith) (omega arith) in
+    record { fits = omega (arith, c.from.ensures, (c.type_inv.bytes l.i).fits) }
 
 pub loop-i-preserved : goal.loop-i-preserved
 loop-i-preserved c =
     let a = c.args in
     let l = c.loop-i in
     let more : 8 * (l.i - a.first + 1) ≡ 8 * (l.i + 1 - a.first) = omega arith in
-    record {
-      begun = omega arith;
-      within = omega arith;
-      taken =
-          ap (λ (b : ℕ). l.number * 256 + b) c.wide.ensures
-          ∙ field_next a.bytes.now a.first l.i (l.i - a.first) l.number l.invariant.taken (omega arith) (omega arith) (c.type_inv.bytes l.i).fits
-          ∙ ap (field a.bytes.now (8 * a.first)) more;
-    }
+    ap (λ (b : ℕ). l.number * 256 + b) c.from.ensures
+    ∙ field_next a.bytes.now a.first l.i (l.i - a.first) l.number l.invariant (omega arith) (omega arith) (c.type_inv.bytes l.i).fits
+    ∙ ap (field a.bytes.now (8 * a.first)) more

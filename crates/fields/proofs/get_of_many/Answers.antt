@@ -19,7 +19,7 @@ returns c =
     let a = c.args in
     let i = c.window_start-first.result in
     let near : a.place < 8 * i + 8 = omega arith in
-    ap₂ (λ (x y : ℕ). x * 2 ^ (a.place - 8 * i) % 2 ^ 64 / 2 ^ (64 - a.width) + y / 2 ^ (72 - (a.place - 8 * i) - a.width)) c.eight-number.ensures c.wide.ensures
+    ap₂ (λ (x y : ℕ). x * 2 ^ (a.place - 8 * i) % 2 ^ 64 / 2 ^ (64 - a.width) + y / 2 ^ (72 - (a.place - 8 * i) - a.width)) c.eight-number.ensures c.from.ensures
     ∙ window_past a.bytes.now i a.place a.width (omega arith) near (omega arith) (omega arith) (omega arith) (c.type_inv.bytes (i + 8)).fits
 
 -- the sum is a field of at most 64 bits

@@ -9,10 +9,7 @@ use Rattle.fields.proofs.store.Goals as goal
 pub loop-i-init : goal.loop-i-init
 loop-i-init c =
     let a = c.args in
-    record {
-      within = omega arith;
-      written = sym (over_no_digits (row a.buf.now) (8 * a.first) 0 (a.number / 2 ^ (8 * (a.bytes - 0))) refl);
-    }
+    sym (over_no_digits (row a.buf.now) (8 * a.first) 0 (a.number / 2 ^ (8 * (a.bytes - 0))) refl)
 
 pub loop-i-preserved : goal.loop-i-preserved
 loop-i-preserved c =
@@ -22,11 +19,7 @@ loop-i-preserved c =
     let one_less : 8 * (a.bytes - l.i) ≡ left + 8 = omega arith in
     let more : 8 * l.i + 8 ≡ 8 * (l.i + 1) = omega arith in
     let rest : left ≡ 8 * (a.bytes - (l.i + 1)) = omega arith in
-    record {
-      within = omega arith;
-      written =
-          store_step a.buf.now l.buf (8 * a.first) (8 * l.i) left a.number (a.first + l.i) c.low_byte-x.result (omega arith)
-          (l.invariant.written ∙ ap (λ (k : ℕ). over (row a.buf.now) (8 * a.first) (digits (8 * l.i) (a.number / 2 ^ k))) one_less)
-          (omega arith) (omega arith) c.low_byte-x.ensures
-          ∙ ap₂ (λ (n k : ℕ). over (row a.buf.now) (8 * a.first) (digits n (a.number / 2 ^ k))) more rest;
-    }
+    store_step a.buf.now l.buf (8 * a.first) (8 * l.i) left a.number (a.first + l.i) c.low_byte-x.result (omega arith)
+    (l.invariant ∙ ap (λ (k : ℕ). over (row a.buf.now) (8 * a.first) (digits (8 * l.i) (a.number / 2 ^ k))) one_less)
+    (omega arith) (omega arith) c.low_byte-x.ensures
+    ∙ ap₂ (λ (n k : ℕ). over (row a.buf.now) (8 * a.first) (digits n (a.number / 2 ^ k))) more rest
