@@ -199,8 +199,7 @@ impl Clock {
     fn read_unclear(self, now: i64) -> Result<i64, Refusal>
         ensures { reading_told result ≡ reading self now }
     {
-        let taken = self.is_clock();
-        self.read_tested(taken, now)
+        self.read_tested(self.is_clock(), now)
     }
 
     // The same, once it is known whether it is a clock.
@@ -226,7 +225,8 @@ impl Clock {
         }
     }
 
-    // The clock as the request leaves it.
+    // The clock as the request leaves it. Request and now are handed on as `update` has them: a struct of the two would
+    // be made for that alone.
     #[tactic(auto, using(crate::proofs::Walks::update_refused))]
     fn carried_on(self, request: Request, now: i64) -> Result<Clock, Refusal>
         ensures { update_told self result ≡ updating self request now }
@@ -240,8 +240,7 @@ impl Clock {
     pub fn details(self, now: i64) -> Result<Details, Refusal>
         ensures { details_told result ≡ detailing self now }
     {
-        let taken = self.is_clock();
-        self.time_refusal(taken, now)?;
+        self.time_refusal(self.is_clock(), now)?;
         Ok(self.described(now))
     }
 
@@ -250,8 +249,7 @@ impl Clock {
     pub fn started(self) -> bool
         ensures { result ≡ is_started self }
     {
-        let taken = self.is_clock();
-        taken & (self.started == 1)
+        self.is_clock() & (self.started == 1)
     }
 
     // Refuses what is no clock, and by rules 1 and 2.
@@ -394,8 +392,7 @@ impl Clock {
         ensures { result ≡ placed (clock_value self now) }
     {
         if self.started == 1 {
-            let line = self.line;
-            line.value_at(now)
+            self.line.value_at(now)
         } else {
             Value::Within(self.backstop)
         }
@@ -406,10 +403,9 @@ impl Clock {
         ensures { result ≡ details_of self now }
     {
         let started = self.started == 1;
-        let line = shown_line(started, self.line);
         Details {
             started,
-            line,
+            line: shown_line(started, self.line),
             error: self.error,
             generation: self.generation,
             latest: self.latest,

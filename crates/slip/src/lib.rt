@@ -263,9 +263,7 @@ fn fits_version_2(request: Request) -> bool
 fn is_needless(request: Request) -> bool
     ensures { result ≡ is_needless request }
 {
-    let newer = request.is_version_3();
-    let fits = fits_version_2(request);
-    newer & fits
+    request.is_version_3() & fits_version_2(request)
 }
 
 // The bits of a time behind its word.
@@ -312,8 +310,7 @@ fn sizes_of(word: u64) -> Sizes
 fn length_of(word: u64) -> usize
     ensures { result ≡ slip_length (bare word) }
 {
-    let sizes = sizes_of(word);
-    sizes.length
+    sizes_of(word).length
 }
 
 // The request as its slip has it: in version 2 where that does, else in version 3.
