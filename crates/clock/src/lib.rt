@@ -152,11 +152,17 @@ impl Clock {
 
     pub const AUTO_START: u8 = 32;
 
-    // The line of a clock that starts at creation: 0 at 0, with no remainder and the rate 0.
+    // The line of a clock that starts at creation: 0 at 0, with no remainder and the rate 0. It is no `Line::default()`:
+    // only the test of an unstarted clock uses that the two are the same.
     pub fn identity_line() -> Line
         ensures { result ≡ identity }
     {
-        Line::default()
+        Line {
+            reference: 0,
+            synthetic: 0,
+            remainder: 0,
+            rate: 0,
+        }
     }
 
     // Zeros, which are no clock, and so no `Default`: they stand where a struct must hold one and there is none.
@@ -480,11 +486,22 @@ fn begins_beyond(redrawn: Option<Line>) -> bool
     redrawn.is_none_or(|line| Clock::END < line.synthetic)
 }
 
-// The line as details show it.
+// The line as details show it. It is told number by number: one that is chosen as a whole waits for memory.
 fn shown_line(started: bool, line: Line) -> Line
     ensures { result ≡ cond started line zero_line }
 {
-    if started { line } else { Line::default() }
+    let Line {
+        reference,
+        synthetic,
+        remainder,
+        rate,
+    } = line;
+    Line {
+        reference: flagged_or(started, reference, 0),
+        synthetic: flagged_or(started, synthetic, 0),
+        remainder: flagged_or(started, remainder, 0),
+        rate: flagged_or(started, rate, 0),
+    }
 }
 
 // What a reading of this value answers.
