@@ -1,6 +1,6 @@
 // A clock's life on one line: each call writes what is asked and what the clock answers.
 use crate::words::{Asked, Kind, Outcome};
-use clock::{Clock, Details, Request, Updated};
+use clock::{Clock, Detailed, Details, Reading, Request, Updated};
 use print::Time;
 use std::io;
 
@@ -51,13 +51,15 @@ impl<'a, P: Print> Life<'a, P> {
         print!(self.rt; "; at 1 to {last}{}", Asked(request))
     }
 
+    // As C is told it: where a reading is refused, its value is told too.
     pub fn read(&self, now: i64) -> io::Result<()> {
-        match self.clock.read(now) {
-            Ok(value) => print!(self.rt; "; at {} reads {}", Time(now), Time(value)),
-            Err(refusal) => print!(self.rt;
-                "; at {} read: refused {}, value 0",
+        let Reading { refusal, value } = Reading::from(self.clock.read(now));
+        match refusal {
+            0 => print!(self.rt; "; at {} reads {}", Time(now), Time(value)),
+            _ => print!(self.rt;
+                "; at {} read: refused {refusal}, value {}",
                 Time(now),
-                refusal.number()
+                Time(value)
             ),
         }
     }
@@ -74,7 +76,7 @@ impl<'a, P: Print> Life<'a, P> {
 
     // Zeros where they are refused.
     fn details(&self, now: i64) -> Details {
-        self.clock.details(now).unwrap_or_default()
+        Detailed::from(self.clock.details(now)).details
     }
 
     pub fn end(self) -> io::Result<()> {
