@@ -7,7 +7,7 @@ ghost use Rattle.fields.specs.Bits.{digits, row};
 ghost use Rattle.fields.specs.Field.{field, over, Inside};
 ghost use Rattle.fields.specs.Record.{packed, fields, widths_in, values_in, AllInside};
 ghost use Rattle.fields.specs.Reader.{reader_at, moved_on};
-ghost use Rattle.fields.specs.Pending.{Waiting, waiting, reach, merged, Together};
+ghost use Rattle.fields.specs.Pending.{Waiting, waiting, reach, merged, Ready, Together};
 
 use std::marker::Model;
 
@@ -229,7 +229,7 @@ impl Model for Pending {
 
     ghost view = { λ p. waiting p.word p.count p.first };
 
-    ghost invariant = { λ p. (p.count < 64) × (p.word % 2 ^ (64 - p.count) ≡ 0) };
+    ghost invariant = { λ p. Ready p.word p.count };
 }
 
 // The buffer is lent to each step, and no struct holds it: a promise on its bytes is one on what is lent.
