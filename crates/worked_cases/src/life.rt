@@ -51,15 +51,16 @@ impl<'a, P: Print> Life<'a, P> {
         print!(self.rt; "; at 1 to {last}{}", Asked(request))
     }
 
-    // As C is told it: where a reading is refused, its value is told too.
+    // Where a reading is refused, the value that C is told beside the number is told too.
     pub fn read(&self, now: i64) -> io::Result<()> {
-        let Reading { refusal, value } = Reading::from(self.clock.read(now));
-        match refusal {
-            0 => print!(self.rt; "; at {} reads {}", Time(now), Time(value)),
-            _ => print!(self.rt;
-                "; at {} read: refused {refusal}, value {}",
+        let answer = self.clock.read(now);
+        match answer {
+            Ok(value) => print!(self.rt; "; at {} reads {}", Time(now), Time(value)),
+            Err(refusal) => print!(self.rt;
+                "; at {} read: refused {}, value {}",
                 Time(now),
-                Time(value)
+                refusal.number(),
+                Time(Reading::from(answer).value)
             ),
         }
     }
